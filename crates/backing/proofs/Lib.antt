@@ -1,0 +1,6 @@
+pub mod Tallies
+pub mod Calls
+pub mod Bytes
+pub mod Marks
+pub mod Limiting
+pub mod Lawful

@@ -1,0 +1,98 @@
+// A backing in bytes that the caller lends, one bit a granule.
+ghost use mathlib.Core.Path.{_≡_};
+ghost use mathlib.Core.List.{List};
+ghost use Prim.Native.Nat.{ℕ};
+ghost use lib.ListN.{length};
+ghost use Rattle.std.specs.Results.{Cases};
+ghost use Rattle.backing.specs.Makings.{making, mask-making};
+ghost use Rattle.backing.specs.Masks.{MaskOk, mask-means, spare-bytes};
+ghost use Rattle.backing.specs.Soundness.{mask-sound};
+use crate::bits;
+use crate::interface::Backing;
+use crate::refusals::Refusal;
+use crate::refusals::Refused;
+
+#[derive(Drop)]
+pub struct Mask<'a> {
+    bytes: &'a mut [u8],
+    size: u32,
+    count: u32,
+}
+
+impl<'a> Mask<'a> {
+    // A mask of `size` granules, none committed, in the first of the bytes.
+    pub fn new(bytes: &'a mut [u8], size: u32) -> Result<Mask<'a>, Refused<&'a mut [u8]>>
+        ensures answer { λ r. ⌜ making mask-means r ≡ mask-making size (length (now (bytes .entry))) ⌝ }
+        ensures spares { λ r. ⌜ Cases r (λ m. spare-bytes size (m .bytes .now) ≡ spare-bytes size (now (bytes .entry))) (λ e. e .back .now ≡ now (bytes .entry)) ⌝ }
+        ensures valid { λ r. ⌜ Cases r MaskOk (λ _. Unit {0}) ⌝ }
+    {
+        let needed = (size as usize + 7) / 8;
+        if size == 0 || size > 1024 || bytes.len() < needed {
+            return Err(Refused {
+                why: Refusal::BadMaking,
+                back: bytes,
+            });
+        }
+        bits::clear(bytes, needed);
+        Ok(Mask {
+            bytes,
+            size,
+            count: 0,
+        })
+    }
+
+    // The bytes, as the mask leaves them.
+    pub fn into_bytes(self) -> &'a mut [u8]
+        ensures { λ r. ⌜ now r ≡ self .entry .bytes .now ⌝ }
+    {
+        let Mask {
+            bytes,
+            size: _,
+            count: _,
+        } = self;
+        bytes
+    }
+}
+
+pub impl Backing for Mask<'_> as MaskBacking {
+    ghost means = { mask-means };
+
+    ghost ok = { MaskOk };
+
+    ghost sound = { mask-sound };
+
+    ghost Spare = { List ℕ };
+
+    ghost spare = { λ m. spare-bytes (m .size) (m .bytes .now) };
+
+    fn size(&self) -> u32 {
+        self.size
+    }
+
+    fn allowance(&self) -> u32 {
+        self.size
+    }
+
+    fn count(&self) -> u32 {
+        self.count
+    }
+
+    fn held(&self, granule: u32) -> bool {
+        granule < self.size && bits::is_set(self.bytes, granule)
+    }
+
+    fn commit(&mut self, first: u32, n: u32) -> Result<u32, Refusal> {
+        let added = self.missing(first, n)?;
+        bits::set_all(self.bytes, first, first + n, true);
+        self.count += added;
+        Ok(added)
+    }
+
+    fn release(&mut self, first: u32, n: u32) -> Result<u32, Refusal> {
+        let absent = self.missing(first, n)?;
+        let removed = n - absent;
+        bits::set_all(self.bytes, first, first + n, false);
+        self.count -= removed;
+        Ok(removed)
+    }
+}
