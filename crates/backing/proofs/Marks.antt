@@ -8,14 +8,14 @@ use native.Mathlib.Omega.{arith}
 use native.Mathlib.Nat.{zero-div}
 use lib.Dec.{eqb, leb, ltb}
 use lib.ListN.{length, getD}
-use Rattle.std.proofs.shelf.Tests.{and-left, and-right, cases-lt, and-from, le-ltb, le-leb}
+use Rattle.std.proofs.shelf.Tests.{and-left, and-right, cases-lt, cond-false, and-from, le-ltb, le-leb, lt-ltb}
 use Rattle.std.proofs.shelf.Ways.{tells}
 use Rattle.backing.specs.Bits.{bit-of, bit-at, bytes-for}
 use Rattle.backing.specs.Makings.{mask-fits}
 use Rattle.backing.specs.Masks.{marked}
 use Rattle.backing.specs.Meaning.{Meaning, among, turned, fresh, tally, missing, present, affordable}
 use Rattle.backing.specs.Soundness.{tally-le}
-use Rattle.backing.proofs.Tallies.{tally-both, tally-const, tally-added, tally-removed}
+use Rattle.backing.proofs.Tallies.{tally-both, tally-const, tally-same, tally-added, tally-removed}
 
 pub bit-clear : (bytes : List ℕ) (g : ℕ) → getD bytes (g / 8) 0 ≡ 0 → bit-at bytes g ≡ false
 unfolding bit-at
@@ -34,6 +34,17 @@ marked-turned : (before after : List ℕ) (size first n : ℕ) (on : Bool) → f
     → (g : ℕ) → marked after size g ≡ cond (among first n g) on (marked before size g)
 marked-turned before after size first n on fits h g =
     ap (λ b. ltb g size && b) (h g) ∙ (grind (arith, tells))
+
+-- bits past the last granule: clear in fresh bytes, and not in any stretch
+pub idle-none : (bytes : List ℕ) (size : ℕ) → ((k : ℕ) → k < bytes-for size → getD bytes k 0 ≡ 0) → (g : ℕ) → size ≤ g → g < 8 * bytes-for size → bit-at bytes g ≡ false
+idle-none bytes size z g past in-last = bit-clear bytes g (z (g / 8) (omega arith))
+
+pub idle-still : (before after : List ℕ) (size first n : ℕ) (on : Bool) → first + n ≤ size
+    → ((g : ℕ) → bit-at after g ≡ cond (leb first g && ltb g (first + n)) on (bit-at before g))
+    → ((g : ℕ) → size ≤ g → g < 8 * bytes-for size → bit-at before g ≡ false)
+    → (g : ℕ) → size ≤ g → g < 8 * bytes-for size → bit-at after g ≡ false
+idle-still before after size first n on fits turns was g past in-last =
+    turns g ∙ cond-false _ on (bit-at before g) (and-right (leb first g) (ltb g (first + n)) (le-ltb g (first + n) (omega arith))) ∙ was g past in-last
 
 -- a mask of a size in these bytes, by its meaning
 abbrev pub over : List ℕ → ℕ → Meaning
@@ -83,3 +94,14 @@ module _ (before after : List ℕ) (size first n : ℕ) (fits : first + n ≤ si
 
 pub fits-mask : (size bytes : ℕ) → 1 ≤ size → size ≤ 1024 → bytes-for size ≤ bytes → mask-fits size bytes ≡ true
 fits-mask size bytes s b l = and-from _ _ (and-from _ _ (le-leb 1 size s) (le-leb size 1024 b)) (le-leb (bytes-for size) bytes l)
+
+-- inside a mask the bits are the granules
+pub bits-present : (bytes : List ℕ) (size first n : ℕ) → first + n ≤ size → tally (bit-at bytes) first n ≡ present (over bytes size) first n
+bits-present bytes size first n fits =
+    tally-same (bit-at bytes) (marked bytes size) first n (λ g l h. sym (ap (λ b. b && bit-at bytes g) (lt-ltb g size (omega arith))))
+
+pub absent-is : (bytes : List ℕ) (size first n k : ℕ) → k ≡ present (over bytes size) first n → n - k ≡ missing (over bytes size) first n
+absent-is bytes size first n k e = omega (arith, tally-both (marked bytes size) first n)
+
+pub absent-few : (bytes : List ℕ) (size first n k : ℕ) → k ≡ present (over bytes size) first n → k ≤ n
+absent-few bytes size first n k e = omega (arith, tally-both (marked bytes size) first n)

@@ -1,10 +1,11 @@
-// Bits in a row of bytes.
-ghost use Prim.Native.Nat.{ℕ, _+_, _*_, _/_, _<_, _≤_};
+// Bits in a row of bytes, worked on a byte at a time.
+ghost use Prim.Native.Nat.{ℕ, _+_, _-_, _*_, _<_, _≤_};
 ghost use mathlib.Core.Path.{_≡_};
 ghost use mathlib.Core.Bool.{cond, _&&_};
-ghost use lib.Dec.{leb, ltb, eqb};
+ghost use lib.Dec.{leb, ltb};
 ghost use lib.ListN.{length, getD, drop};
 ghost use Rattle.backing.specs.Bits.{bit-of, bit-at, bytes-for};
+ghost use Rattle.backing.specs.Meaning.{tally};
 
 pub(crate) fn is_set(bytes: &[u8], bit: u32) -> bool
     requires { ⌜ bit < 8 * length (now bytes) ⌝ }
@@ -13,25 +14,23 @@ pub(crate) fn is_set(bytes: &[u8], bit: u32) -> bool
     (bytes[(bit / 8) as usize] >> (bit % 8)) & 1 == 1
 }
 
-// The byte with its bit `k` set, or not set.
-fn with_bit(byte: u8, k: u32, on: bool) -> u8
-    requires { ⌜ k < 8 ⌝ }
-    ensures { λ r. ⌜ ((j : ℕ) → j < 8 → bit-of r j ≡ cond (eqb j k) on (bit-of byte j)) ⌝ }
+// The bits of byte `k` that lie in the stretch from `first` up to `end`.
+fn span(k: u32, first: u32, end: u32) -> u8
+    requires order { ⌜ first ≤ end ⌝ }
+    requires from { ⌜ first < 8 * k + 8 ⌝ }
+    requires to { ⌜ 8 * k < end ⌝ }
+    ensures { λ r. ⌜ ((j : ℕ) → j < 8 → bit-of r j ≡ (leb first (8 * k + j) && ltb (8 * k + j) end)) ⌝ }
 {
-    if on {
-        byte | (1 << k)
-    } else {
-        byte & !(1 << k)
-    }
+    let low = first.saturating_sub(8 * k);
+    let high = (end - 8 * k).min(8);
+    ((1u16 << high) - (1u16 << low)) as u8
 }
 
-fn set(bytes: &mut [u8], bit: u32, on: bool)
-    requires { ⌜ bit < 8 * length (now bytes) ⌝ }
-    ensures bits { λ _. ⌜ ((g : ℕ) → bit-at (now (bytes .exit)) g ≡ cond (eqb g bit) on (bit-at (now (bytes .entry)) g)) ⌝ }
-    ensures rest { λ _. ⌜ ((k : ℕ) → bit / 8 < k → drop k (now (bytes .exit)) ≡ drop k (now (bytes .entry))) ⌝ }
+// The byte with those bits set, or not set.
+fn merged(byte: u8, bits: u8, on: bool) -> u8
+    ensures { λ r. ⌜ ((j : ℕ) → j < 8 → bit-of r j ≡ cond (bit-of bits j) on (bit-of byte j)) ⌝ }
 {
-    let at = (bit / 8) as usize;
-    bytes[at] = with_bit(bytes[at], bit % 8, on);
+    if on { byte | bits } else { byte & !bits }
 }
 
 // Sets each bit from `first` up to `end`, or clears each.
@@ -41,9 +40,23 @@ pub(crate) fn set_all(bytes: &mut [u8], first: u32, end: u32, on: bool)
     ensures bits { λ _. ⌜ ((g : ℕ) → bit-at (now (bytes .exit)) g ≡ cond (leb first g && ltb g end) on (bit-at (now (bytes .entry)) g)) ⌝ }
     ensures rest { λ _. ⌜ ((k : ℕ) → bytes-for end ≤ k → drop k (now (bytes .exit)) ≡ drop k (now (bytes .entry))) ⌝ }
 {
-    for g in first..end {
-        set(bytes, g, on);
+    for k in first / 8..end.div_ceil(8) {
+        let at = k as usize;
+        bytes[at] = merged(bytes[at], span(k, first, end), on);
     }
+}
+
+// How many bits are set from `first` up to `end`.
+pub(crate) fn count_set(bytes: &[u8], first: u32, end: u32) -> u32
+    requires order { ⌜ first ≤ end ⌝ }
+    requires within { ⌜ end ≤ 8 * length (now bytes) ⌝ }
+    ensures { λ r. ⌜ r ≡ tally (bit-at (now (bytes .entry))) first (end - first) ⌝ }
+{
+    let mut n = 0;
+    for k in first / 8..end.div_ceil(8) {
+        n += (bytes[k as usize] & span(k, first, end)).count_ones();
+    }
+    n
 }
 
 // Clears the first `n` bytes.

@@ -16,6 +16,7 @@ pub(crate) fn end_of(size: u32, first: u32, n: u32) -> Result<u32, Refusal>
     }
 }
 
+// A set of committed granules, by what it means. Who makes a backing shows that it means this.
 pub trait Backing {
     // its granules, its allowance, and what is committed
     ghost means: { Self → Meaning };
@@ -23,6 +24,7 @@ pub trait Backing {
     // the representation is as makers and calls leave it
     ghost ok: { Self → Type 0 };
 
+    // what holds of every backing
     ghost sound: { (x : Self) → ok x → Sound (means x) };
 
     // the memory lent beyond what the backing needs
@@ -30,22 +32,27 @@ pub trait Backing {
 
     ghost spare: { Self → Spare };
 
+    // How many granules it has.
     fn size(&self) -> u32
         requires { ⌜ ok (now self) ⌝ }
         ensures { λ r. ⌜ r ≡ means (now (self .entry)) .size ⌝ };
 
+    // How many granules may be committed.
     fn allowance(&self) -> u32
         requires { ⌜ ok (now self) ⌝ }
         ensures { λ r. ⌜ r ≡ means (now (self .entry)) .allowance ⌝ };
 
+    // How many granules are committed.
     fn count(&self) -> u32
         requires { ⌜ ok (now self) ⌝ }
         ensures { λ r. ⌜ r ≡ count (means (now (self .entry))) ⌝ };
 
+    // Whether a granule is committed; none is from the size on.
     fn held(&self, granule: u32) -> bool
         requires { ⌜ ok (now self) ⌝ }
         ensures { λ r. ⌜ r ≡ means (now (self .entry)) .held granule ⌝ };
 
+    // Commits the `n` granules from `first` on, and answers how many of them were not.
     fn commit(&mut self, first: u32, n: u32) -> Result<u32, Refusal>
         requires { ⌜ ok (now self) ⌝ }
         ensures answer { λ r. ⌜ reply r ≡ commit-reply (means (now (self .entry))) first n ⌝ }
@@ -53,6 +60,7 @@ pub trait Backing {
         ensures spares { λ _. ⌜ spare (now (self .exit)) ≡ spare (now (self .entry)) ⌝ }
         ensures valid { λ _. ⌜ ok (now (self .exit)) ⌝ };
 
+    // Releases the `n` granules from `first` on, and answers how many of them were committed.
     fn release(&mut self, first: u32, n: u32) -> Result<u32, Refusal>
         requires { ⌜ ok (now self) ⌝ }
         ensures answer { λ r. ⌜ reply r ≡ release-reply (means (now (self .entry))) first n ⌝ }

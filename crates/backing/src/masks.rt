@@ -9,6 +9,7 @@ ghost use Rattle.backing.specs.Masks.{MaskOk, mask-means, spare-bytes};
 ghost use Rattle.backing.specs.Soundness.{mask-sound};
 use crate::bits;
 use crate::interface::Backing;
+use crate::interface::end_of;
 use crate::refusals::Refusal;
 use crate::refusals::Refused;
 
@@ -45,11 +46,7 @@ impl<'a> Mask<'a> {
     pub fn into_bytes(self) -> &'a mut [u8]
         ensures { λ r. ⌜ now r ≡ self .entry .bytes .now ⌝ }
     {
-        let Mask {
-            bytes,
-            size: _,
-            count: _,
-        } = self;
+        let bytes = self.bytes;
         bytes
     }
 }
@@ -94,5 +91,10 @@ pub impl Backing for Mask<'_> as MaskBacking {
         bits::set_all(self.bytes, first, first + n, false);
         self.count -= removed;
         Ok(removed)
+    }
+
+    fn missing(&self, first: u32, n: u32) -> Result<u32, Refusal> {
+        let end = end_of(self.size, first, n)?;
+        Ok(n - bits::count_set(self.bytes, first, end))
     }
 }

@@ -12,6 +12,46 @@ mod tests {
     use backing::RefusalPartialEq;
     use std::test::*;
 
+    // A backing that keeps the bodies that the trait gives.
+    #[derive(Drop)]
+    struct Plain<B>(B);
+
+    impl<B: Backing> Backing for Plain<B> as PlainBacking {
+        ghost means = { λ x. B·Backing .means (x .0) };
+
+        ghost ok = { λ x. B·Backing .ok (x .0) };
+
+        ghost sound = { λ x valid. B·Backing .sound (x .0) valid };
+
+        ghost Spare = { B·Backing .Spare };
+
+        ghost spare = { λ x. B·Backing .spare (x .0) };
+
+        fn size(&self) -> u32 {
+            self.0.size()
+        }
+
+        fn allowance(&self) -> u32 {
+            self.0.allowance()
+        }
+
+        fn count(&self) -> u32 {
+            self.0.count()
+        }
+
+        fn held(&self, granule: u32) -> bool {
+            self.0.held(granule)
+        }
+
+        fn commit(&mut self, first: u32, n: u32) -> Result<u32, Refusal> {
+            self.0.commit(first, n)
+        }
+
+        fn release(&mut self, first: u32, n: u32) -> Result<u32, Refusal> {
+            self.0.release(first, n)
+        }
+    }
+
     const OUTSIDE: Result<u32, Refusal> = Err(Refusal::OutsideBacking);
 
     #[test]
@@ -91,6 +131,21 @@ mod tests {
             leaves_two_bytes(size)?;
         }
         check(Mask::new(&mut [0xaa; 2], 16).is_ok())
+    }
+
+    #[test]
+    fn bodies_of_the_trait() -> Result<(), Fail> {
+        let mut bytes = [0; 3];
+        let Ok(mut mask) = Mask::new(&mut bytes, 20) else {
+            return Err(Fail::new("refused"));
+        };
+        check_eq(mask.commit(5, 9), Ok(9))?;
+        let plain = Plain(mask);
+        check_eq(plain.missing(0, 20), Ok(11))?;
+        check_eq(plain.missing(4, 3), Ok(1))?;
+        check_eq(plain.missing(13, 8), OUTSIDE)?;
+        check_eq(plain.missing(7, 0), OUTSIDE)?;
+        check_eq(plain.room(), 11)
     }
 
     #[test]

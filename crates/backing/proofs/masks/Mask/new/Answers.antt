@@ -3,7 +3,7 @@ use native.Mathlib.Omega.{arith}
 use lib.ListN.{length}
 use Rattle.std.specs.declared.result.Result.the-variants.{Ok}
 use Rattle.std.proofs.shelf.Tests.{cond-true}
-use Rattle.backing.proofs.Marks.{none-marked, none-counted, fits-mask}
+use Rattle.backing.proofs.Marks.{none-marked, none-counted, idle-none, fits-mask}
 use Rattle.backing.proofs.masks.Mask.new.Needs as need
 
 pub returns : need.returns
@@ -17,5 +17,6 @@ returns c =
         bounded = omega arith;
         covered = omega arith;
         counted = none-counted (c .clear .last .bytes) (c .args .size) (c .clear .ensures .zeros);
+        idle = idle-none (c .clear .last .bytes) (c .args .size) (c .clear .ensures .zeros);
       };
     }

@@ -8,7 +8,7 @@ use Rattle.backing.specs.Meaning.{missing}
 use Rattle.backing.specs.Bits.{bytes-for}
 use Rattle.backing.specs.Replies.{accepted}
 use Rattle.backing.proofs.Calls.{Ended, missing-told, missing-refused, commit-in, commit-out, commit-stays, commit-turns}
-use Rattle.backing.proofs.Marks.{over-turned, all-allowed, counted-added, few-added}
+use Rattle.backing.proofs.Marks.{over-turned, idle-still, all-allowed, counted-added, few-added}
 use Rattle.backing.proofs.masks.MaskBacking.commit.Needs as need
 use Rattle.backing.proofs.masks.MaskBacking.commit.Needs.{In-Continue-added}
 
@@ -65,5 +65,6 @@ returns c =
         bounded = c .pre .bounded;
         covered = omega (arith, c .pre .covered);
         counted = counted-added (c .args .self .now .bytes .now) (c .set-all .last .bytes) (c .args .self .now .size) (c .args .first) (c .args .n) fits (c .args .self .now .count) (c .in-Continue-added .added) (c .pre .counted) (t .1) (c .set-all .ensures .bits);
+        idle = idle-still (c .args .self .now .bytes .now) (c .set-all .last .bytes) (c .args .self .now .size) (c .args .first) (c .args .n) _ fits (c .set-all .ensures .bits) (c .pre .idle);
       };
     }

@@ -8,7 +8,7 @@ use Rattle.backing.specs.Meaning.{missing}
 use Rattle.backing.specs.Bits.{bytes-for}
 use Rattle.backing.specs.Replies.{accepted}
 use Rattle.backing.proofs.Calls.{Ended, missing-told, missing-refused, release-in, release-out, release-stays, release-turns}
-use Rattle.backing.proofs.Marks.{over-turned, counted-removed, few-removed, removed-is, removed-few}
+use Rattle.backing.proofs.Marks.{over-turned, idle-still, counted-removed, few-removed, removed-is, removed-few}
 use Rattle.backing.proofs.masks.MaskBacking.release.Needs as need
 use Rattle.backing.proofs.masks.MaskBacking.release.Needs.{In-Continue-absent}
 
@@ -71,5 +71,6 @@ returns c =
         bounded = c .pre .bounded;
         covered = omega (arith, c .pre .covered);
         counted = counted-removed (c .args .self .now .bytes .now) (c .set-all .last .bytes) (c .args .self .now .size) (c .args .first) (c .args .n) fits (c .args .self .now .count) (c .args .n - c .in-Continue-absent .absent) (c .pre .counted) is (c .set-all .ensures .bits);
+        idle = idle-still (c .args .self .now .bytes .now) (c .set-all .last .bytes) (c .args .self .now .size) (c .args .first) (c .args .n) _ fits (c .set-all .ensures .bits) (c .pre .idle);
       };
     }
