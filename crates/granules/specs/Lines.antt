@@ -1,5 +1,5 @@
 -- The lines of the input, each with its end: a line feed, and a carriage return right before it or not.
-use Prim.Native.Nat.{ℕ, _-_, _<_}
+use Prim.Native.Nat.{ℕ, _+_, _-_, _<_, min}
 use mathlib.Core.Path.{_≡_}
 use mathlib.Core.Bool.{cond}
 use mathlib.Core.List.{List}
@@ -8,7 +8,7 @@ use lib.ListN.{length, getD, take}
 use Rattle.std.specs.declared.option.Option.the-variants.{Some, None}
 use Rattle.requests.specs.Lines.{request-of}
 use Rattle.granules.specs.declared.input.Line.{Line}
-use Rattle.granules.specs.declared.input.Line.the-variants.{Asks, Bad, End}
+use Rattle.granules.specs.declared.input.Line.the-variants.{Asks, Empty, Bad, End}
 
 -- the byte that stands n from a line's end
 abbrev pub last : ℕ → List ℕ → ℕ
@@ -22,8 +22,13 @@ ending line = cond (eqb (last 1 line) 10) (cond (eqb (last 2 line) 13) 2 1) 0
 abbrev pub without-end : List ℕ → List ℕ
 without-end line = take (length line - ending line) line
 
+-- the number after a line's, unless there are more lines than can be counted
+abbrev pub next-number : ℕ → ℕ
+next-number n = min (n + 1) 18446744073709551615
+
 -- what a line that was read is said to be
 abbrev pub Reads : List ℕ → Line → Type 0
 Reads line (Asks request) = request-of (without-end line) ≡ Some request
+Reads line Empty = (length (without-end line) ≡ 0) × (0 < length line)
 Reads line Bad = (request-of (without-end line) ≡ None) × (0 < length (without-end line))
 Reads line End = length line ≡ 0

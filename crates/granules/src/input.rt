@@ -6,7 +6,7 @@ ghost use lib.Dec.{ltb};
 ghost use lib.ListN.{length};
 ghost use Rattle.std.specs.Of.Vec.{vec-items};
 ghost use Rattle.std.specs.Vec.{made};
-ghost use Rattle.granules.specs.Lines.{without-end, Reads};
+ghost use Rattle.granules.specs.Lines.{without-end, next-number, Reads};
 use requests::Request;
 use requests::parse;
 use std::alloc::Global;
@@ -20,6 +20,7 @@ use std::str;
 #[derive(Clone, Copy)]
 pub enum Line {
     Asks(Request),
+    Empty,
     Bad,
     End,
 }
@@ -62,32 +63,30 @@ impl Lines {
         self.number
     }
 
-    // The next line that is not empty.
+    // What the next line is.
     pub fn next(&mut self, heap: Global) -> Result<Line, AnyError>
         ensures reads { λ r. ⌜ made r (Reads (vec-items (now (self .exit) .line))) ⌝ }
-        ensures number { λ _. ⌜ now (self .entry) .number ≤ now (self .exit) .number ⌝ }
+        ensures number { λ _. ⌜ now (self .exit) .number ≡ next-number (now (self .entry) .number) ⌝ }
     {
-        for _ in 0..u64::MAX {
-            if !self.advance()? {
-                return Ok(Line::End);
-            }
-            let Ok(text) = str::from_utf8(without_end(&self.line)) else {
-                return Err(self.not_text(heap)?);
-            };
-            if !text.is_empty() {
-                return match parse(text) {
-                    Some(request) => Ok(Line::Asks(request)),
-                    None => Ok(Line::Bad),
-                };
-            }
+        if !self.advance()? {
+            return Ok(Line::End);
         }
-        Err("too many lines".into())
+        let Ok(text) = str::from_utf8(without_end(&self.line)) else {
+            return Err(self.not_text(heap)?);
+        };
+        if text.is_empty() {
+            return Ok(Line::Empty);
+        }
+        match parse(text) {
+            Some(request) => Ok(Line::Asks(request)),
+            None => Ok(Line::Bad),
+        }
     }
 
     // Reads a line more; false at the end of the input.
     fn advance(&mut self) -> Result<bool, AnyError>
         ensures read { λ r. ⌜ made r (λ more. more ≡ ltb 0 (length (vec-items (now (self .exit) .line)))) ⌝ }
-        ensures number { λ _. ⌜ now (self .entry) .number ≤ now (self .exit) .number ⌝ }
+        ensures number { λ _. ⌜ now (self .exit) .number ≡ next-number (now (self .entry) .number) ⌝ }
     {
         self.line.clear();
         self.number = self.number.saturating_add(1);

@@ -82,6 +82,7 @@ fn first_mask(rt: &LibcRuntime, lines: &mut Lines) -> Result<Option<u32>, AnyErr
         match lines.next(rt.alloc())? {
             Line::Asks(Request::Mask { granules }) => return Ok(Some(granules)),
             Line::Asks(_) | Line::Bad => bad_line(rt, lines)?,
+            Line::Empty => {}
             Line::End => break,
         }
     }
@@ -105,6 +106,7 @@ fn until_limit<B: Backing>(
                 None => bad_line(rt, lines)?,
             },
             Line::Bad => bad_line(rt, lines)?,
+            Line::Empty => {}
             Line::End => break,
         }
     }
