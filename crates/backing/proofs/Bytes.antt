@@ -1,7 +1,7 @@
 -- Bits of a byte and of a row of bytes.
-use mathlib.Core.Path.{_≡_, refl, sym, ap, subst, _∙_}
+use mathlib.Core.Path.{_≡_, refl, sym, ap, _∙_}
 use mathlib.Core.Bool.{Bool, true, false, cond, not, _&&_, _||_}
-use mathlib.Core.Logic.{_⊎_, ⊎-elim, inl, inr}
+use mathlib.Core.Logic.{_⊎_, ⊎-elim}
 use mathlib.Core.List.{List}
 use Prim.Native.Nat.{ℕ, zero, suc, _+_, _-_, _*_, _/_, _%_, _^_, _≤_, _<_, min}
 use native.Mathlib.Nat.{add-zero}
@@ -15,7 +15,7 @@ use Rattle.std.proofs.shelf.Tests.{and-parts, and-cases, both-ways, cases-bool,
 use Rattle.std.proofs.shelf.Ways.{tells}
 use Rattle.backing.specs.Bits.{bit-of, bit-at}
 use Rattle.backing.specs.Meaning.{tally, one}
-use Rattle.backing.proofs.Tallies.{tally-none, tally-suc, tally-same}
+use Rattle.backing.proofs.Tallies.{tally-none, tally-suc}
 
 -- a test at each number below n
 all-below : ℕ → (ℕ → Bool) → Bool

@@ -1,18 +1,18 @@
 -- What the defined replies come to, case by case.
 use mathlib.Core.Path.{_≡_, refl, sym, ap, subst, _∙_}
-use mathlib.Core.Bool.{Bool, true, false, cond, not, _&&_}
-use mathlib.Core.List.{List, [], _∷_}
-use Prim.Native.Nat.{ℕ, _+_, _-_, _≤_, _<_}
+use mathlib.Core.Bool.{Bool, true, false, cond}
+use mathlib.Core.List.{[], _∷_}
+use Prim.Native.Nat.{ℕ, _+_, _-_, _≤_}
 use native.Mathlib.Omega.{arith}
-use lib.Dec.{leb, ltb}
+use lib.Dec.{leb}
 use Rattle.std.specs.declared.result.Result.{Result}
 use Rattle.std.specs.declared.result.Result.the-variants.{Ok, Err}
-use Rattle.std.proofs.shelf.Tests.{cond-true, cond-false, and-parts, and-from, and-left, and-right, leb-true, le-leb}
+use Rattle.std.proofs.shelf.Tests.{cond-true, cond-false, and-parts, and-from, and-left, and-right, leb-true}
 use Rattle.std.proofs.shelf.Ways.{tells}
 use Rattle.backing.specs.declared.refusals.Refusal.{Refusal}
 use Rattle.backing.specs.declared.refusals.Refusal.the-variants.{LimitBelowCount, BadMaking, OutsideBacking, OverAllowance}
 use Rattle.backing.specs.Meaning.{Meaning, missing, present, room, inside, affordable, turned, commit-after, release-after}
-use Rattle.backing.specs.Replies.{Reply, accepted, refused, told, stretch-end, missing-reply, commit-reply, release-reply}
+use Rattle.backing.specs.Replies.{accepted, refused, told, stretch-end, missing-reply, commit-reply, release-reply}
 
 -- a stretch whose end was answered, and one that was refused
 pub record Ended (size first n end : ℕ) : Type 0 where

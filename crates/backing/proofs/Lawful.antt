@@ -1,15 +1,14 @@
 -- The laws of every backing.
-use mathlib.Core.Path.{_≡_, refl, sym, ap, subst, _∙_}
+use mathlib.Core.Path.{_≡_, refl, sym, ap, _∙_}
 use mathlib.Core.Bool.{Bool, true, false, cond, not, _&&_, _||_}
 use mathlib.Core.List.{List, [], _∷_}
-use Prim.Native.Nat.{ℕ, _+_, _-_, _≤_, _<_, min}
+use Prim.Native.Nat.{ℕ, _+_, _-_, _≤_, min}
 use native.Mathlib.Omega.{arith}
 use lib.Dec.{leb, ltb}
-use Rattle.std.proofs.shelf.Tests.{cond-true, cond-false, cond-both, and-parts, leb-true, le-leb, le-ltb, and-right}
-use Rattle.std.proofs.shelf.Ways.{tells}
-use Rattle.backing.specs.Meaning.{Meaning, Sound, count, present, missing, room, inside, affordable, among, turned, limited, commit-after, release-after}
-use Rattle.backing.specs.Replies.{Reply, accepted, refused, commit-reply, release-reply}
-use Rattle.backing.specs.Laws.{Call, commit, release, call-after, calls-after, RefusalsChangeNothing, AnswersAreCountChanges, CallsTurnTheirStretch, CallsKeepBackingsSound, FullAllowanceNeverRefuses, LimitersJoin}
+use Rattle.std.proofs.shelf.Tests.{cond-false, cond-both, and-parts, leb-true, le-leb, le-ltb, and-right}
+use Rattle.backing.specs.Meaning.{Meaning, Sound, count, present, missing, room, inside, affordable, among, turned, commit-after, release-after}
+use Rattle.backing.specs.Replies.{accepted, refused, commit-reply, release-reply}
+use Rattle.backing.specs.Laws.{Call, commit, release, call-after, RefusalsChangeNothing, AnswersAreCountChanges, CallsTurnTheirStretch, CallsKeepBackingsSound, FullAllowanceNeverRefuses, LimitersJoin}
 use Rattle.backing.specs.Soundness.{tally-le}
 use Rattle.backing.proofs.Calls.{ended-in, commit-in}
 use Rattle.backing.proofs.Tallies.{tally-added, tally-removed}

@@ -1,14 +1,13 @@
 -- A limit over a backing's meaning.
-use mathlib.Core.Path.{_≡_, refl, sym, ap, subst, _∙_}
+use mathlib.Core.Path.{_≡_, refl, sym, ap, _∙_}
 use mathlib.Core.Bool.{Bool, true, false, cond, not, _&&_}
-use mathlib.Core.List.{List, [], _∷_}
+use mathlib.Core.List.{[], _∷_}
 use Prim.Native.Nat.{ℕ, _+_, _-_, _≤_, _<_, min}
 use native.Mathlib.Omega.{arith}
-use lib.Dec.{leb, ltb}
 use Rattle.std.proofs.shelf.Tests.{cond-both, and-parts, leb-false, lt-leb}
 use Rattle.std.proofs.shelf.Ways.{tells}
-use Rattle.backing.specs.Meaning.{Meaning, count, missing, room, inside, affordable, turned, limited, commit-after, release-after, tally}
-use Rattle.backing.specs.Replies.{Reply, accepted, refused, missing-reply, commit-reply, release-reply}
+use Rattle.backing.specs.Meaning.{Meaning, count, missing, room, inside, affordable, turned, limited, commit-after, release-after}
+use Rattle.backing.specs.Replies.{accepted, refused, missing-reply, commit-reply, release-reply}
 use Rattle.backing.proofs.Calls.{ended-in, commit-over, commit-over-stays}
 use Rattle.backing.proofs.Tallies.{tally-added, tally-removed}
 

@@ -1,5 +1,5 @@
 -- A mask's bytes read as the set that they mark.
-use mathlib.Core.Path.{_≡_, refl, sym, ap, subst, fun-ext, _∙_}
+use mathlib.Core.Path.{_≡_, sym, ap, subst, fun-ext, _∙_}
 use mathlib.Core.Bool.{Bool, true, false, cond, not, _&&_}
 use mathlib.Core.Logic.{⊎-elim}
 use mathlib.Core.List.{List}
@@ -7,7 +7,7 @@ use Prim.Native.Nat.{ℕ, _+_, _-_, _*_, _/_, _%_, _^_, _≤_, _<_}
 use native.Mathlib.Omega.{arith}
 use native.Mathlib.Nat.{zero-div}
 use lib.Dec.{eqb, leb, ltb}
-use lib.ListN.{length, getD}
+use lib.ListN.{getD}
 use Rattle.std.proofs.shelf.Tests.{and-left, and-right, cases-lt, cond-false, and-from, le-ltb, le-leb, lt-ltb}
 use Rattle.std.proofs.shelf.Ways.{tells}
 use Rattle.backing.specs.Bits.{bit-of, bit-at, bytes-for}
@@ -71,17 +71,17 @@ module _ (before after : List ℕ) (size first n : ℕ) (fits : first + n ≤ si
   all-allowed =
       le-leb _ _ (omega (arith, tally-added was first n size fits, tally-le (λ g. cond (among first n g) true (was g)) 0 size))
 
-  pub counted-added : (count k : ℕ) → count ≡ tally was 0 size → k ≡ missing (over before size) first n → Turns true → count + k ≡ tally (marked after size) 0 size
-  counted-added count k c e h =
-      omega (arith, tally-added was first n size fits, ap (λ s. tally s 0 size) (fun-ext (marked-turned before after size first n true fits h)))
+  pub counted-added : (count k : ℕ) (on : Bool) → on ≡ true → count ≡ tally was 0 size → k ≡ missing (over before size) first n → Turns on → count + k ≡ tally (marked after size) 0 size
+  counted-added count k on is-on c e h =
+      omega (arith, tally-added was first n size fits, ap (λ s. tally s 0 size) (fun-ext (marked-turned before after size first n true fits (subst Turns is-on h))))
 
   pub few-added : (count k : ℕ) → count ≡ tally was 0 size → k ≡ missing (over before size) first n → count + k ≤ size
   few-added count k c e =
       omega (arith, tally-added was first n size fits, tally-le (λ g. cond (among first n g) true (was g)) 0 size)
 
-  pub counted-removed : (count k : ℕ) → count ≡ tally was 0 size → k ≡ present (over before size) first n → Turns false → count - k ≡ tally (marked after size) 0 size
-  counted-removed count k c e h =
-      omega (arith, tally-removed was first n size fits, ap (λ s. tally s 0 size) (fun-ext (marked-turned before after size first n false fits h)))
+  pub counted-removed : (count k : ℕ) (on : Bool) → on ≡ false → count ≡ tally was 0 size → k ≡ present (over before size) first n → Turns on → count - k ≡ tally (marked after size) 0 size
+  counted-removed count k on not-on c e h =
+      omega (arith, tally-removed was first n size fits, ap (λ s. tally s 0 size) (fun-ext (marked-turned before after size first n false fits (subst Turns not-on h))))
 
   pub few-removed : (count k : ℕ) → count ≡ tally was 0 size → k ≡ present (over before size) first n → k ≤ count
   few-removed count k c e = omega (arith, tally-removed was first n size fits)

@@ -1,5 +1,4 @@
 -- Both kinds of backing are sound: the proofs that the interface's member `sound` asks of them.
-use mathlib.Core.Path.{_≡_}
 use mathlib.Core.Bool.{Bool, true, false}
 use Prim.Native.Nat.{ℕ, zero, suc, _+_, _≤_}
 use native.Mathlib.Omega.{arith}

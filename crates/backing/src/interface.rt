@@ -1,7 +1,5 @@
 // What every backing promises.
-ghost use Prim.Native.Nat.{ℕ};
 ghost use mathlib.Core.Path.{_≡_};
-ghost use mathlib.Core.List.{List};
 ghost use Rattle.backing.specs.Meaning.{Meaning, Sound, count, room, commit-after, release-after};
 ghost use Rattle.backing.specs.Replies.{reply, stretch-end, missing-reply, commit-reply, release-reply};
 use crate::refusals::Refusal;

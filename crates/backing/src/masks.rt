@@ -1,10 +1,13 @@
 // A backing in bytes that the caller lends, one bit a granule.
 ghost use mathlib.Core.Path.{_≡_};
+ghost use mathlib.Core.Bool.{cond};
 ghost use mathlib.Core.List.{List};
 ghost use Prim.Native.Nat.{ℕ};
 ghost use lib.ListN.{length};
 ghost use Rattle.std.specs.Results.{Cases};
 ghost use Rattle.backing.specs.Makings.{making, mask-making};
+ghost use Rattle.backing.specs.Meaning.{commit-after, release-after};
+ghost use Rattle.backing.specs.Replies.{reply, commit-reply, release-reply};
 ghost use Rattle.backing.specs.Masks.{MaskOk, mask-means, spare-bytes};
 ghost use Rattle.backing.specs.Soundness.{mask-sound};
 use crate::bits;
@@ -49,6 +52,25 @@ impl<'a> Mask<'a> {
         let bytes = self.bytes;
         bytes
     }
+
+    // Commits or releases a stretch, and answers how many granules changed.
+    fn turn(&mut self, first: u32, n: u32, on: bool) -> Result<u32, Refusal>
+        requires { ⌜ MaskOk (now self) ⌝ }
+        ensures answer { λ r. ⌜ reply r ≡ cond on (commit-reply (mask-means (now (self .entry))) first n) (release-reply (mask-means (now (self .entry))) first n) ⌝ }
+        ensures after { λ _. ⌜ mask-means (now (self .exit)) ≡ cond on (commit-after (mask-means (now (self .entry))) first n) (release-after (mask-means (now (self .entry))) first n) ⌝ }
+        ensures spares { λ _. ⌜ spare-bytes (now (self .exit) .size) (now (self .exit) .bytes .now) ≡ spare-bytes (now (self .entry) .size) (now (self .entry) .bytes .now) ⌝ }
+        ensures valid { λ _. ⌜ MaskOk (now (self .exit)) ⌝ }
+    {
+        let absent = self.missing(first, n)?;
+        bits::set_all(self.bytes, first, first + n, on);
+        if on {
+            self.count += absent;
+            return Ok(absent);
+        }
+        let removed = n - absent;
+        self.count -= removed;
+        Ok(removed)
+    }
 }
 
 pub impl Backing for Mask<'_> as MaskBacking {
@@ -79,18 +101,11 @@ pub impl Backing for Mask<'_> as MaskBacking {
     }
 
     fn commit(&mut self, first: u32, n: u32) -> Result<u32, Refusal> {
-        let added = self.missing(first, n)?;
-        bits::set_all(self.bytes, first, first + n, true);
-        self.count += added;
-        Ok(added)
+        self.turn(first, n, true)
     }
 
     fn release(&mut self, first: u32, n: u32) -> Result<u32, Refusal> {
-        let absent = self.missing(first, n)?;
-        let removed = n - absent;
-        bits::set_all(self.bytes, first, first + n, false);
-        self.count -= removed;
-        Ok(removed)
+        self.turn(first, n, false)
     }
 
     fn missing(&self, first: u32, n: u32) -> Result<u32, Refusal> {

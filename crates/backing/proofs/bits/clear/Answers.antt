@@ -1,5 +1,4 @@
 use mathlib.Core.Path.{_∙_}
-use mathlib.Core.Logic.{_≢_}
 use native.Mathlib.Omega.{arith}
 use borrow.Author.Count.{below-more}
 use lib.Seq.{getD-set-same, getD-set-other, drop-set-lt}

@@ -1,9 +1,5 @@
 use mathlib.Core.Path.{_∙_}
-use Prim.Native.Nat.{_≤_, _+_, _*_}
 use native.Mathlib.Omega.{arith}
-use borrow.Author.Needs.{needs}
-use lib.Dec.{leb, ltb}
-use Rattle.std.proofs.shelf.Ways.{tells}
 use Rattle.backing.proofs.Bytes.{Span, span-of, moved-span}
 use Rattle.backing.proofs.bits.span.Needs as need
 use Rattle.backing.proofs.bits.span.Needs.{After-min-high}

@@ -3,7 +3,6 @@ use Prim.Native.Nat.{_<_, _-_}
 use borrow.Author.Needs.{needs}
 use native.Mathlib.Omega.{arith}
 use lib.ListN.{length, getD}
-use Rattle.granules.specs.Lines.{last}
 use Rattle.granules.proofs.Ends.{kept, kept-empty}
 use Rattle.granules.proofs.input.without_end.Needs as need
 

@@ -1,4 +1,4 @@
-use mathlib.Core.Path.{sym, ap, _∙_}
+use mathlib.Core.Path.{ap, _∙_}
 use native.Mathlib.Omega.{arith}
 use Rattle.backing.specs.Meaning.{limited, count}
 use Rattle.backing.proofs.Limiting.{limited-commit, limited-committed, commit-adds}
