@@ -1,7 +1,11 @@
 -- What a limiter means: the backing below it, with no more allowed than its limit.
-use Prim.Native.Nat.{_≤_}
+use Prim.Native.Nat.{ℕ, _≤_}
 use Rattle.backing.specs.declared.limits.Limiter.{Limiter}
 use Rattle.backing.specs.Meaning.{Meaning, count, limited}
+
+-- a limiter's own limit
+abbrev pub limit-of : {B : Type 0} → Limiter B → ℕ
+limit-of l = l .limit
 
 abbrev pub limiter-means : {B : Type 0} → (B → Meaning) → Limiter B → Meaning
 limiter-means means l = limited (l .limit) (means (l .below))

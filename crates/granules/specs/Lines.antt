@@ -6,8 +6,11 @@ use mathlib.Core.List.{List}
 use lib.Dec.{eqb}
 use lib.ListN.{length, getD, take}
 use Rattle.std.specs.declared.option.Option.the-variants.{Some, None}
+use Rattle.std.specs.Of.Vec.{vec-items}
 use Rattle.requests.specs.Lines.{request-of}
+use Rattle.requests.specs.declared.Request.{Request}
 use Rattle.granules.specs.declared.input.Line.{Line}
+use Rattle.granules.specs.declared.input.Lines.{Lines}
 use Rattle.granules.specs.declared.input.Line.the-variants.{Asks, Empty, Bad, End}
 
 -- the byte that stands n from a line's end
@@ -26,9 +29,17 @@ without-end line = take (length line - ending line) line
 abbrev pub next-number : ℕ → ℕ
 next-number n = min (n + 1) 18446744073709551615
 
+-- the line that was read last, with its end
+abbrev pub line-of : Lines → List ℕ
+line-of lines = vec-items (lines .line)
+
+-- a line spells a request
+abbrev pub Spells : List ℕ → Request → Type 0
+Spells line request = request-of (without-end line) ≡ Some request
+
 -- what a line that was read is said to be
 abbrev pub Reads : List ℕ → Line → Type 0
-Reads line (Asks request) = request-of (without-end line) ≡ Some request
+Reads line (Asks request) = Spells line request
 Reads line Empty = (length (without-end line) ≡ 0) × (0 < length line)
 Reads line Bad = (request-of (without-end line) ≡ None) × (0 < length (without-end line))
 Reads line End = length line ≡ 0

@@ -1,9 +1,10 @@
 // Reads requests to a backing, one a line, and prints one answer a line.
 mod input;
 
-ghost use Rattle.std.specs.Results.{Cases};
 ghost use Rattle.std.specs.Slices.{found};
-ghost use Rattle.backing.specs.Limits.{LimiterOk};
+ghost use Rattle.std.specs.Vec.{made};
+ghost use Rattle.backing.specs.Limits.{LimiterOk, limit-of};
+ghost use Rattle.granules.specs.Lines.{line-of, Spells};
 use backing::Backing;
 use backing::Limiter;
 use backing::LimiterBacking;
@@ -77,7 +78,9 @@ fn bad_line(rt: &LibcRuntime, lines: &Lines) -> Result<(), AnyError> {
 }
 
 // The granules of the first request for a mask; none where the input ends before one.
-fn first_mask(rt: &LibcRuntime, lines: &mut Lines) -> Result<Option<u32>, AnyError> {
+fn first_mask(rt: &LibcRuntime, lines: &mut Lines) -> Result<Option<u32>, AnyError>
+    ensures asked { λ r. ⌜ made r (λ o. found o (λ granules. Spells (line-of (now (lines .exit))) (Request.Mask granules))) ⌝ }
+{
     for _ in 0..u64::MAX {
         match lines.next(rt.alloc())? {
             Line::Asks(Request::Mask { granules }) => return Ok(Some(granules)),
@@ -97,6 +100,7 @@ fn until_limit<B: Backing>(
 ) -> Result<Option<u32>, AnyError>
     requires { ⌜ B·Backing .ok (now backing) ⌝ }
     ensures valid { λ _. ⌜ B·Backing .ok (now (backing .exit)) ⌝ }
+    ensures asked { λ r. ⌜ made r (λ o. found o (λ limit. Spells (line-of (now (lines .exit))) (Request.Limit limit))) ⌝ }
 {
     for _ in 0..u64::MAX {
         match lines.next(rt.alloc())? {
@@ -120,7 +124,8 @@ fn until_limited<B: Backing + Drop>(
     backing: B,
 ) -> Result<Option<Limiter<B>>, AnyError>
     requires { ⌜ B·Backing .ok backing ⌝ }
-    ensures valid { λ r. ⌜ Cases r (λ o. found o (LimiterOk (B·Backing .means) (B·Backing .ok))) (λ _. Unit {0}) ⌝ }
+    ensures valid { λ r. ⌜ made r (λ o. found o (LimiterOk (B·Backing .means) (B·Backing .ok))) ⌝ }
+    ensures asked { λ r. ⌜ made r (λ o. found o (λ l. Spells (line-of (now (lines .exit))) (Request.Limit (limit-of l)))) ⌝ }
 {
     let mut backing = backing;
     for _ in 0..u64::MAX {
