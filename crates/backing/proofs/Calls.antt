@@ -1,7 +1,6 @@
 -- What the defined replies come to, case by case.
-use Rattle.std.proofs.Common.{◌≡◌, ℕ, ◌+◌, ◌-◌, ◌≤◌, Bool, true, false, cond, leb, [], ◌∷◌, Ok, Err, Result, sym, refl, ap, ◌∙◌, subst, arith}
+use Rattle.std.proofs.Common.{◌≡◌, ℕ, ◌+◌, ◌≤◌, Bool, true, false, cond, leb, [], ◌∷◌, Ok, Err, Result, sym, refl, ap, ◌∙◌, subst, arith}
 use Rattle.std.proofs.lemmas.Bool.{cond-true, cond-false, and_parts, and_from, and_left, and_right, leb-true}
-use Rattle.std.proofs.lemmas.Bool.Decides.{nat_tests}
 use Rattle.backing.specs.declared.refusals.Refusal.{Refusal}
 use Rattle.backing.specs.declared.refusals.Refusal.TheVariants.{LimitBelowCount, BadMaking, OutsideBacking, OverAllowance}
 use Rattle.backing.specs.Meaning.{Meaning, missing, present, room, inside, affordable, turned, commit_after, release_after}

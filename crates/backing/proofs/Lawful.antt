@@ -1,5 +1,5 @@
 -- The laws of every backing.
-use Rattle.std.proofs.Common.{◌≡◌, ℕ, ◌+◌, ◌-◌, ◌≤◌, min, Bool, true, false, cond, not, ◌&&◌, ◌||◌, ltb, leb, List, [], ◌∷◌, sym, refl, ap, ◌∙◌, arith}
+use Rattle.std.proofs.Common.{◌≡◌, ℕ, ◌+◌, ◌≤◌, min, Bool, true, false, cond, not, ◌&&◌, ◌||◌, ltb, leb, List, [], ◌∷◌, sym, refl, ap, ◌∙◌, arith}
 use Rattle.std.proofs.lemmas.Bool.{cond-false, cond_both, and_parts, leb-true, le-ltb, and_right}
 use Rattle.backing.specs.Meaning.{Meaning, Sound, count, present, missing, room, inside, affordable, among, turned, commit_after, release_after}
 use Rattle.backing.specs.Replies.{accepted, refused, commit_reply, release_reply}

@@ -1,5 +1,5 @@
 // Bits in a row of bytes, worked on a byte at a time.
-ghost use Rattle.std.specs.Prelude.{◌≡◌, ℕ, ◌+◌, ◌-◌, ◌*◌, ◌<◌, ◌≤◌, ◌&&◌, leb, length, drop, if◌then◌else◌, nat_le, nat_lt, slice_index};
+ghost use Rattle.std.specs.Prelude.{◌≡◌, ℕ, ◌+◌, ◌-◌, ◌*◌, ◌<◌, ◌≤◌, ◌&&◌, length, drop, if◌then◌else◌, nat_le, nat_lt, slice_index};
 ghost use Rattle.backing.specs.Bits.{bit_of, bit_at, bytes_for};
 ghost use Rattle.backing.specs.Meaning.{tally};
 
@@ -33,7 +33,7 @@ fn merged(byte: u8, bits: u8, on: bool) -> u8
 pub(crate) fn set_all(bytes: &mut [u8], first: u32, end: u32, on: bool)
     requires order { first ≤ end }
     requires within { end ≤ 8 * length bytes.old }
-    ensures bits { (g : ℕ) → bit_at bytes.new g ≡ (if leb first g && nat_lt g end then on else bit_at bytes.old g) }
+    ensures bits { (g : ℕ) → bit_at bytes.new g ≡ (if nat_le first g && nat_lt g end then on else bit_at bytes.old g) }
     ensures rest { (k : ℕ) → bytes_for end ≤ k → drop k bytes.new ≡ drop k bytes.old }
 {
     for k in first / 8..end.div_ceil(8) {

@@ -1,4 +1,6 @@
-// Sets of committed granules: what a backing promises, a bit mask that is one, and a limiter over any.
+//! Sets of committed granules: what a backing promises, a bit mask that is one, and a limiter over any.
+#![tactic(auto)]
+
 mod bits;
 mod interface;
 pub mod laws;

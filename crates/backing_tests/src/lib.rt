@@ -1,4 +1,6 @@
-// Tests of the backings at their edges.
+//! Tests of the backings at their edges.
+#![tactic(auto)]
+
 #[cfg(test)]
 mod run_lists;
 

@@ -1,4 +1,6 @@
-// Reads requests to a backing, one a line, and prints one answer a line.
+//! Reads requests to a backing, one a line, and prints one answer a line.
+#![tactic(auto)]
+
 mod input;
 
 ghost use Rattle.std.specs.Prelude.{IfSome, IfOk};

@@ -1,4 +1,6 @@
 //! Reads a line of text as a request to the program granules.
+#![tactic(auto)]
+
 ghost use Rattle.std.specs.Prelude.{◌≡◌};
 ghost use Rattle.requests.specs.Lines.{number_of, alone, with_one, with_two, request_of};
 

@@ -1,4 +1,6 @@
-// A backing as a sorted list of runs, for hosts where committed stretches are few and long.
+//! A backing as a sorted list of runs, for hosts where committed stretches are few and long.
+#![tactic(auto)]
+
 pub mod laws;
 mod lists;
 mod ordered;

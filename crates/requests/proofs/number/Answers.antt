@@ -6,5 +6,5 @@ use Rattle.requests.proofs.number.Goals as goal
 
 pub returns : goal.returns
 returns c =
-    let plus = starts_char 43 c.args.text.now c.starts-with.result c.starts-with.ensures.cases (lit< tt) (lit< tt) in
-    c.ok.ensures.value ∙ parsed c.args.text.now _ c.parse.ensures.value.0 (not_from_Decides _ plus c.if-starts-with.false)
+    let plus = starts_char 43 c.args.text.now c.starts_with.result c.starts_with.ensures.cases (lit< tt) (lit< tt) in
+    c.ok.ensures.value ∙ parsed c.args.text.now _ c.parse.ensures.value.0 (not_from_Decides _ plus c.if-starts_with.false)

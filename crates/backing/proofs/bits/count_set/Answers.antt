@@ -17,9 +17,9 @@ loop-k-init c =
     let none : min c.args.end (8 * (c.args.first / 8)) - c.args.first ≡ 0 = omega arith in
     sym (ap (tally (bit_at c.args.bytes.now) c.args.first) none ∙ tally_none _ _)
 
-pub overflow-add-n : goal.overflow-add-n
-overflow-add-n c =
-    let more = counted (goal.at.overflow-add-n c).After-span in
+pub overflow_add-n : goal.overflow_add-n
+overflow_add-n c =
+    let more = counted (goal.at.overflow_add-n c).After-span in
     let few = tally_le (bit_at c.args.bytes.now) c.args.first (min c.args.end (8 * (c.loop-k.k + 1)) - c.args.first) in
     search rules
 

@@ -8,7 +8,7 @@ returns g c =
     let limit = c.args.self.now.limit in
     let m = g.B.Backing.means c.args.self.now.below in
     let done = c.commit.ensures in
-    let under = c.in-ok-check-limit.ensures in
+    let under = c.in_ok-check_limit.ensures in
     record {
       answer = done.answer ∙ limited_commit limit m c.args.first c.args.n under;
       after = ap (limited limit) done.after ∙ limited_committed limit m c.args.first c.args.n under;

@@ -7,28 +7,28 @@ use Rattle.backing.proofs.Full.{rest_missing, few_present}
 use Rattle.runs.specs.Lists.{list_means, runs_of}
 use Rattle.runs.proofs.Turns.{reach_held}
 use Rattle.runs.proofs.lists.RunListBacking.missing.Goals as goal
-use Rattle.runs.proofs.lists.RunListBacking.missing.Goals.{In-ok-look}
+use Rattle.runs.proofs.lists.RunListBacking.missing.Goals.{In_ok-look}
 
-pub returns-in-err-look : goal.returns-in-err-look
-returns-in-err-look c =
-    let p = err_from_is_err_and c.from-residual.result c.from-residual.ensures.1 in
-    let o = c.in-err-look.ensures in
+pub returns-in_err-look : goal.returns-in_err-look
+returns-in_err-look c =
+    let p = err_from_is_err_and c.from_residual.result c.from_residual.ensures.1 in
+    let o = c.in_err-look.ensures in
     rw (p.1, p.2) (ap told o.1 ∙ missing_out (list_means c.args.self.now) c.args.first c.args.n o.0)
 
-held : (c : In-ok-look) → c.in-ok-look.field-0.held ≡ present (list_means c.args.self.now) c.args.first c.args.n
+held : (c : In_ok-look) → c.in_ok-look.field-0.held ≡ present (list_means c.args.self.now) c.args.first c.args.n
 held c =
     let l = c.args.self.now in
-    let t = c.in-ok-look.ensures in
+    let t = c.in_ok-look.ensures in
     let e = ended_in l.size c.args.first c.args.n t.0 in
-    reach_held l.size (runs_of l) c.requires.apart c.args.first c.args.n e.some e.fits c.in-ok-look.field-0 t.1
+    reach_held l.size (runs_of l) c.requires.apart c.args.first c.args.n e.some e.fits c.in_ok-look.field-0 t.1
 
-pub overflow-sub-result : goal.overflow-sub-result
-overflow-sub-result c =
-    let few = few_present (list_means c.args.self.now) c.args.first c.args.n c.in-ok-look.field-0.held (held c) in
+pub overflow_sub-result : goal.overflow_sub-result
+overflow_sub-result c =
+    let few = few_present (list_means c.args.self.now) c.args.first c.args.n c.in_ok-look.field-0.held (held c) in
     search rules
 
 pub returns : goal.returns
 returns c =
     let m = list_means c.args.self.now in
-    ap accepted (rest_missing m c.args.first c.args.n c.in-ok-look.field-0.held (held c))
-    ∙ missing_in m c.args.first c.args.n c.in-ok-look.ensures.0
+    ap accepted (rest_missing m c.args.first c.args.n c.in_ok-look.field-0.held (held c))
+    ∙ missing_in m c.args.first c.args.n c.in_ok-look.ensures.0
