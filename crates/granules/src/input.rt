@@ -2,9 +2,10 @@
 ghost use Rattle.std.specs.Prelude.{◌≡◌, [], length, IfOk, nat_lt};
 ghost use Rattle.granules.specs.Lines.{without_end, next_number, Reads};
 
+use anyhow::anyhow;
 use requests::{Request, parse};
 use std::alloc::Global;
-use std::io::{BufRead, BufReader, Stdin};
+use std::io::{BufRead, Lock, StdinLock};
 use std::str;
 
 // What a line of the input is.
@@ -19,7 +20,7 @@ pub enum Line {
 // Standard input, the line that was read last, and its number from 1.
 #[derive(Drop)]
 pub struct Lines {
-    reader: BufReader<Stdin>,
+    reader: StdinLock<'static>,
     line: Vec<u8>,
     number: u64,
 }
@@ -41,7 +42,7 @@ impl Lines {
         ensures number { result.number ≡ 0 }
     {
         Lines {
-            reader: BufReader::new(rt.stdin()),
+            reader: rt.stdin().lock(),
             line: Vec::new(rt.alloc()),
             number: 0,
         }
@@ -86,6 +87,6 @@ impl Lines {
 
     fn not_text(&self, heap: Global) -> anyhow::Result<anyhow::Error> {
         let number = self.number;
-        Ok(format!(in heap; "line {number} is not text (UTF-8)")?.into())
+        Ok(anyhow!(format!(in heap; "line {number} is not text (UTF-8)")?))
     }
 }

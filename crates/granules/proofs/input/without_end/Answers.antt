@@ -7,10 +7,10 @@ returns-in_default c =
     let none : length c.args.line.now < 1 = search rules in
     kept_empty c.args.line.now (omega arith)
 
-pub returns-in_default·2 : goal.returns-in_default·2
-returns-in_default·2 c =
+pub returns-in_default-2 : goal.returns-in_default-2
+returns-in_default-2 c =
     let other : get_or c.args.line.now (length c.args.line.now - 1) 0 ≡ 10 → ⊥ = search rules in
     kept c.args.line.now other
 
-pub returns-in_default·3 : goal.returns-in_default·3
-returns-in_default·3 c = kept c.args.line.now (omega arith)
+pub returns-in_default-3 : goal.returns-in_default-3
+returns-in_default-3 c = kept c.args.line.now (omega arith)
