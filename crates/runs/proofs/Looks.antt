@@ -1,10 +1,10 @@
 -- One pass over the runs, for what a stretch reaches.
-use Rattle.std.proofs.Common.{◌≡◌, ℕ, ◌+◌, ◌-◌, ◌<◌, ◌≤◌, min, max, true, false, ◌&&◌, ◌||◌, ltb, leb, ◌⊎◌, List, [], length, get_or, take, drop, sym, refl, ap, ◌∙◌, subst, ⊎_elim, arith}
+use Rattle.std.proofs.Common.{◌≡◌, ℕ, ◌+◌, ◌-◌, ◌<◌, ◌≤◌, min, max, true, false, ◌&&◌, ◌||◌, ltb, leb, List, [], length, get_or, take, drop, sym, refl, ap, ◌∙◌, subst, ⊎_elim, arith}
 use mathlib.Core.Bool.{or_assoc, or_comm, or-false}
 use Rattle.std.proofs.lemmas.List.{drop_more, drop_all}
 use Rattle.std.proofs.lemmas.Bool.{both_ways, cases_lt}
 use Rattle.std.proofs.lemmas.Bool.Decides.{nat_tests}
-use Rattle.backing.specs.Meaning.{tally, one}
+use Rattle.backing.specs.Meaning.{tally}
 use Rattle.backing.specs.Soundness.{tally_le}
 use Rattle.backing.proofs.Tallies.{tally_same, tally_const}
 use Rattle.runs.specs.declared.rows.Run.{Run}

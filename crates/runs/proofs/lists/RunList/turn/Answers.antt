@@ -32,17 +32,17 @@ stretch c = ended_in c.args.self.now.size c.args.first c.args.n c.in_ok-reach.en
 held : (c : In_ok-reach) → c.in_ok-reach.reach.held ≡ present (list_means c.args.self.now) c.args.first c.args.n
 held c =
     let l = c.args.self.now in
-    reach_held l.size (runs_of l) c.requires.apart c.args.first c.args.n (stretch c).some (stretch c).ranges c.in_ok-reach.reach c.in_ok-reach.ensures.1
+    reach_held l.size (runs_of l) c.requires.apart c.args.first c.args.n (stretch c).some (stretch c).fits c.in_ok-reach.reach c.in_ok-reach.ensures.1
 
 merging_at : (c : In_ok-reach) → Turned c.args.self.now.size (runs_of c.args.self.now) (merged (runs_of c.args.self.now) c.in_ok-reach.reach) c.args.first c.args.n true
 merging_at c =
     let l = c.args.self.now in
-    merging l.size (runs_of l) c.requires.apart c.args.first c.args.n (stretch c).some (stretch c).ranges c.in_ok-reach.reach c.in_ok-reach.ensures.1
+    merging l.size (runs_of l) c.requires.apart c.args.first c.args.n (stretch c).some (stretch c).fits c.in_ok-reach.reach c.in_ok-reach.ensures.1
 
 parting_at : (c : In_ok-reach) → Turned c.args.self.now.size (runs_of c.args.self.now) (parted (runs_of c.args.self.now) c.in_ok-reach.reach c.args.first (c.args.first + c.args.n)) c.args.first c.args.n false
 parting_at c =
     let l = c.args.self.now in
-    parting l.size (runs_of l) c.requires.apart c.args.first c.args.n (stretch c).some (stretch c).ranges c.in_ok-reach.reach c.in_ok-reach.ensures.1
+    parting l.size (runs_of l) c.requires.apart c.args.first c.args.n (stretch c).some (stretch c).fits c.in_ok-reach.reach c.in_ok-reach.ensures.1
 
 pub merge-self-requires : goal.merge-self-requires
 merge-self-requires c =
