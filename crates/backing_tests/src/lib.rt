@@ -15,15 +15,15 @@ mod tests {
     struct Plain<B>(B);
 
     impl<B: Backing> Backing for Plain<B> {
-        ghost means = { λ x. B-as-Backing.means x.0 };
+        ghost means = { λ x. B.Backing.means x.0 };
 
-        ghost ok = { λ x. B-as-Backing.ok x.0 };
+        ghost ok = { λ x. B.Backing.ok x.0 };
 
-        ghost sound = { λ x valid. B-as-Backing.sound x.0 valid };
+        ghost sound = { λ x valid. B.Backing.sound x.0 valid };
 
-        ghost Spare = { B-as-Backing.Spare };
+        ghost Spare = { B.Backing.Spare };
 
-        ghost spare = { λ x. B-as-Backing.spare x.0 };
+        ghost spare = { λ x. B.Backing.spare x.0 };
 
         fn size(&self) -> u32 {
             self.0.size()
@@ -110,7 +110,7 @@ mod tests {
         assert_eq!(rt; mask.commit(7, 4), OUTSIDE);
         assert_eq!(rt; mask.release(8, 1), Ok(1));
         let left: &[u8] = mask.into_bytes();
-        assert_eq!(rt; left, &[0x80, 0x02, 0xaa, 0xaa]);
+        assert_eq!(rt; left, [0x80, 0x02, 0xaa, 0xaa].as_slice());
         Ok(())
     }
 
@@ -122,7 +122,7 @@ mod tests {
             Err(refused) => {
                 assert_eq!(rt; refused.why, Refusal::BadMaking);
                 let back: &[u8] = refused.back;
-                assert_eq!(rt; back, &[0xaa, 0xaa]);
+                assert_eq!(rt; back, [0xaa, 0xaa].as_slice());
                 Ok(())
             }
         }

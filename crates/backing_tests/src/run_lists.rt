@@ -22,7 +22,10 @@ fn split_into_the_last_record(rt: HostRuntime) -> Result<(), Fail> {
     assert_eq!(rt; list.release(3, 1), Ok(1));
     assert_eq!(rt; list.release(5, 1), Ok(1));
     assert_eq!(rt; list.release(1, 1), Ok(1));
-    assert_eq!(rt; list.runs(), &[run(0, 1), run(2, 1), run(4, 1), run(6, 1)]);
+    assert_eq!(rt;
+        list.runs(),
+        [run(0, 1), run(2, 1), run(4, 1), run(6, 1)].as_slice()
+    );
     assert_eq!(rt; list.count(), 4);
     Ok(())
 }
@@ -37,9 +40,9 @@ fn full_records(rt: HostRuntime) -> Result<(), Fail> {
     assert_eq!(rt; list.commit(0, 1), Ok(1));
     assert_eq!(rt; list.commit(2, 1), Ok(1));
     assert_eq!(rt; list.release(4, 1), Ok(1));
-    assert_eq!(rt; list.runs(), &[run(0, 1), run(2, 1), run(5, 1)]);
+    assert_eq!(rt; list.runs(), [run(0, 1), run(2, 1), run(5, 1)].as_slice());
     assert_eq!(rt; list.commit(3, 2), Ok(2));
-    assert_eq!(rt; list.runs(), &[run(0, 1), run(2, 4)]);
+    assert_eq!(rt; list.runs(), [run(0, 1), run(2, 4)].as_slice());
     Ok(())
 }
 
@@ -53,10 +56,10 @@ fn joined_with_both_neighbours(rt: HostRuntime) -> Result<(), Fail> {
     assert_eq!(rt; list.commit(5, 2), Ok(2));
     assert_eq!(rt; list.commit(8, 1), Ok(1));
     assert_eq!(rt; list.commit(3, 2), Ok(2));
-    assert_eq!(rt; list.runs(), &[run(1, 6), run(8, 1)]);
+    assert_eq!(rt; list.runs(), [run(1, 6), run(8, 1)].as_slice());
     assert_eq!(rt; list.missing(0, 10), Ok(3));
     assert_eq!(rt; list.commit(2, 3), Ok(0));
-    assert_eq!(rt; list.runs(), &[run(1, 6), run(8, 1)]);
+    assert_eq!(rt; list.runs(), [run(1, 6), run(8, 1)].as_slice());
     Ok(())
 }
 
@@ -70,9 +73,9 @@ fn one_commit_over_many_runs(rt: HostRuntime) -> Result<(), Fail> {
         assert_eq!(rt; list.commit(3 * k, 2), Ok(2));
     }
     assert_eq!(rt; list.commit(4, 9), Ok(3));
-    assert_eq!(rt; list.runs(), &[run(0, 2), run(3, 11), run(15, 2)]);
+    assert_eq!(rt; list.runs(), [run(0, 2), run(3, 11), run(15, 2)].as_slice());
     assert_eq!(rt; list.release(1, 15), Ok(13));
-    assert_eq!(rt; list.runs(), &[run(0, 1), run(16, 1)]);
+    assert_eq!(rt; list.runs(), [run(0, 1), run(16, 1)].as_slice());
     Ok(())
 }
 
@@ -89,9 +92,9 @@ fn every_second_granule(rt: HostRuntime) -> Result<(), Fail> {
     assert_eq!(rt; list.held(1022), true);
     assert_eq!(rt; list.held(1023), false);
     assert_eq!(rt; list.commit(0, 1024), Ok(512));
-    assert_eq!(rt; list.runs(), &[run(0, 1024)]);
+    assert_eq!(rt; list.runs(), [run(0, 1024)].as_slice());
     assert_eq!(rt; list.release(0, 1024), Ok(1024));
-    assert_eq!(rt; list.runs(), &[]);
+    assert_eq!(rt; list.runs(), [].as_slice());
     Ok(())
 }
 
@@ -103,7 +106,7 @@ fn first_and_last(rt: HostRuntime) -> Result<(), Fail> {
     };
     assert_eq!(rt; list.commit(1023, 1), Ok(1));
     assert_eq!(rt; list.commit(0, 1), Ok(1));
-    assert_eq!(rt; list.runs(), &[run(0, 1), run(1023, 1)]);
+    assert_eq!(rt; list.runs(), [run(0, 1), run(1023, 1)].as_slice());
     assert_eq!(rt; list.held(1024), false);
     assert_eq!(rt; list.commit(1023, 2), OUTSIDE);
     assert_eq!(rt; list.commit(u32::MAX, u32::MAX), OUTSIDE);
@@ -123,7 +126,7 @@ fn spare_records_stay(rt: HostRuntime) -> Result<(), Fail> {
     assert_eq!(rt; list.commit(0, 1), Ok(1));
     assert_eq!(rt; list.commit(2, 1), Ok(1));
     let left: &[Run] = list.into_records();
-    assert_eq!(rt; left, &[run(0, 1), run(2, 1), UNUSED, UNUSED]);
+    assert_eq!(rt; left, [run(0, 1), run(2, 1), UNUSED, UNUSED].as_slice());
     Ok(())
 }
 
@@ -135,7 +138,7 @@ fn leaves_two_records(rt: &impl Abort, size: u32) -> Result<(), Fail> {
         Err(refused) => {
             assert_eq!(rt; refused.why, Refusal::BadMaking);
             let back: &[Run] = refused.back;
-            assert_eq!(rt; back, &[UNUSED, UNUSED]);
+            assert_eq!(rt; back, [UNUSED, UNUSED].as_slice());
             Ok(())
         }
     }
@@ -162,6 +165,6 @@ fn under_a_limiter(rt: HostRuntime) -> Result<(), Fail> {
     assert_eq!(rt; limiter.commit(2, 2), Ok(2));
     let over = Refusal::OverAllowance { wanted: 2, left: 1 };
     assert_eq!(rt; limiter.commit(1, 4), Err(over));
-    assert_eq!(rt; limiter.into_below().runs(), &[run(2, 2)]);
+    assert_eq!(rt; limiter.into_below().runs(), [run(2, 2)].as_slice());
     Ok(())
 }

@@ -2,4 +2,4 @@ use Rattle.runs.specs.Lists.{RunListOk}
 use Rattle.backing_tests.proofs.run_lists.every_second_granule.Given as goal
 
 abbrev pub invariant-loop-k : goal.invariant-loop-k
-invariant-loop-k l = RunListOk l.list
+invariant-loop-k g l = RunListOk l.list
