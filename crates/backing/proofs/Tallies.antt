@@ -1,7 +1,9 @@
 -- Counting a set over stretches.
-use Rattle.std.proofs.Common.{◌≡◌, ℕ, zero, suc, ◌+◌, ◌-◌, ◌<◌, ◌≤◌, Bool, true, false, cond, not, sym, refl, ap, ◌∙◌, arith}
+use Rattle.std.proofs.Common.{◌≡◌, ℕ, zero, suc, ◌+◌, ◌-◌, ◌<◌, ◌≤◌, Bool, true, false, cond, not, ◌&&◌, leb, ltb, List, ◌∷◌, length, sym, refl, ap, ◌∙◌, arith}
+use Rattle.std.specs.List.{filter, range_with_len}
 use Rattle.std.proofs.lemmas.Bool.Decides.{nat_tests}
 use Rattle.backing.specs.Meaning.{tally, one, among}
+use Rattle.backing.specs.Soundness.{tally_le}
 
 pub tally_none : (s : ℕ → Bool) (a : ℕ) → tally s a 0 ≡ 0
 unfolding tally
@@ -11,24 +13,7 @@ pub tally_suc : (s : ℕ → Bool) (a n : ℕ) → tally s a (suc n) ≡ tally s
 unfolding tally
 tally_suc s a n = refl
 
--- one granule more
-pub tally_more : (s : ℕ → Bool) (a g : ℕ) → a ≤ g → tally s a (g + 1 - a) ≡ tally s a (g - a) + one (s g)
-tally_more s a g h =
-    let e : g + 1 - a ≡ suc (g - a) = omega arith in
-    let f : a + (g - a) ≡ g = omega arith in
-    ap (tally s a) e ∙ tally_suc s a (g - a) ∙ ap (λ x. tally s a (g - a) + one (s x)) f
-
--- a loop that counts those outside a set: its start, a turn of each kind, and its end
-module _ (s : ℕ → Bool) (a : ℕ) where
-  pub outside_none : 0 ≡ tally (λ x. not (s x)) a (a - a)
-  outside_none =
-      let e : a - a ≡ 0 = omega arith in
-      sym (ap (tally (λ x. not (s x)) a) e ∙ tally_none (λ x. not (s x)) a)
-
-  pub outside_more : (k j g : ℕ) → k ≡ tally (λ x. not (s x)) a (g - a) → a ≤ g → j ≡ k + one (not (s g)) → j ≡ tally (λ x. not (s x)) a (g + 1 - a)
-  outside_more k j g h l e = e ∙ ap (λ x. x + one (not (s g))) h ∙ sym (tally_more (λ x. not (s x)) a g l)
-
-pub tally_split : (s : ℕ → Bool) (a m n : ℕ) → tally s a (m + n) ≡ tally s a m + tally s (a + m) n
+tally_split : (s : ℕ → Bool) (a m n : ℕ) → tally s a (m + n) ≡ tally s a m + tally s (a + m) n
 tally_split s a m zero =
     let e : m + 0 ≡ m = omega arith in
     omega (arith, ap (tally s a) e, tally_none s (a + m))
@@ -56,6 +41,21 @@ tally_const true a zero = tally_none _ a
 tally_const false a zero = tally_none _ a
 tally_const true a (suc n) = omega (arith, tally_suc (λ g. true) a n, tally_const true a n)
 tally_const false a (suc n) = omega (arith, tally_suc (λ g. false) a n, tally_const false a n)
+
+-- a count over a range of numbers
+tally_front : (s : ℕ → Bool) (a n : ℕ) → tally s a (suc n) ≡ one (s a) + tally s (a + 1) n
+tally_front s a n =
+    let e : 1 + n ≡ suc n = omega arith in
+    let f : a + 0 ≡ a = omega arith in
+    omega (arith, ap (tally s a) e, tally_split s a 1 n, tally_suc s a 0, tally_none s a, ap (λ x. one (s x)) f)
+
+filter_one : (b : Bool) (x : ℕ) (xs : List ℕ) → length (cond b (x ∷ xs) xs) ≡ one b + length xs
+filter_one true x xs = omega arith
+filter_one false x xs = omega arith
+
+pub length-filter-range : (s : ℕ → Bool) (a n : ℕ) → length (filter s (range_with_len a n)) ≡ tally s a n
+length-filter-range s a zero = sym (tally_none s a)
+length-filter-range s a (suc n) = omega (arith, tally_front s a n, filter_one (s a) a (filter s (range_with_len (a + 1) n)), length-filter-range s (a + 1) n)
 
 -- a set in which a stretch was turned on or off, counted over all of it
 module _ (s : ℕ → Bool) (a n size : ℕ) (fits : a + n ≤ size) where
@@ -91,3 +91,21 @@ module _ (s : ℕ → Bool) (a n size : ℕ) (fits : a + n ≤ size) where
 
   pub tally_removed : tally (λ g. cond (among a n g) false (s g)) 0 size + tally s a n ≡ tally s 0 size
   tally_removed = omega (arith, turned_tally false)
+
+  -- what a stretch lacks may be added, and what it holds taken away
+  pub tally_room : tally s 0 size + tally (λ g. not (s g)) a n ≤ size
+  tally_room = omega (arith, tally_added, tally_le (λ g. cond (among a n g) true (s g)) 0 size)
+
+  pub tally_part : tally s a n ≤ tally s 0 size
+  tally_part = omega (arith, tally_removed)
+
+-- a set of which those from low up to high were turned on or off
+module _ (s t : ℕ → Bool) (low high size : ℕ) (order : low < high) (fits : high ≤ size) where
+  as_among : (on : Bool) → ((g : ℕ) → t g ≡ cond (leb low g && ltb g high) on (s g)) → tally t 0 size ≡ tally (λ g. cond (among low (high - low) g) on (s g)) 0 size
+  as_among on turns = tally_same t (λ g. cond (among low (high - low) g) on (s g)) 0 size (λ g l h. turns g ∙ (grind (arith, nat_tests)))
+
+  pub turned_more : ((g : ℕ) → t g ≡ cond (leb low g && ltb g high) true (s g)) → tally t 0 size ≡ tally s 0 size + tally (λ g. not (s g)) low (high - low)
+  turned_more turns = as_among true turns ∙ tally_added s low (high - low) size (omega arith)
+
+  pub turned_fewer : ((g : ℕ) → t g ≡ cond (leb low g && ltb g high) false (s g)) → tally t 0 size + tally s low (high - low) ≡ tally s 0 size
+  turned_fewer turns = omega (arith, as_among false turns, tally_removed s low (high - low) size (omega arith))

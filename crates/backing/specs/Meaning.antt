@@ -1,5 +1,5 @@
 -- What a backing means: how many granules it has, how many may be committed, which of them are.
-use Rattle.std.specs.Prelude.{◌≡◌, ℕ, zero, suc, ◌+◌, ◌-◌, ◌≤◌, min, Bool, true, false, cond, not, ◌&&◌, nat_le, nat_lt}
+use Rattle.std.specs.Prelude.{◌≡◌, ℕ, zero, suc, ◌+◌, ◌-◌, ◌≤◌, min, Bool, true, false, if◌then◌else◌, not, ◌&&◌, nat_le, nat_lt}
 
 pub record Meaning : Type 0 where
   pub size : ℕ
@@ -49,16 +49,16 @@ abbrev pub turned : Meaning → ℕ → ℕ → Bool → Meaning
 turned m first n on = record {
   size = m.size;
   allowance = m.allowance;
-  held = λ g. cond (among first n g) on (m.held g);
+  held = λ g. if among first n g then on else m.held g;
 }
 
 -- a backing after a commit: a refused one leaves it as it was
 unfoldable pub commit_after : Meaning → ℕ → ℕ → Meaning
-commit_after m first n = cond (inside m.size first n && affordable m first n) (turned m first n true) m
+commit_after m first n = if inside m.size first n && affordable m first n then turned m first n true else m
 
 -- a backing after a release
 unfoldable pub release_after : Meaning → ℕ → ℕ → Meaning
-release_after m first n = cond (inside m.size first n) (turned m first n false) m
+release_after m first n = if inside m.size first n then turned m first n false else m
 
 -- a backing that was just made: nothing committed, all of it allowed
 abbrev pub fresh : ℕ → Meaning
@@ -68,10 +68,14 @@ fresh granules = record { size = granules; allowance = granules; held = λ g. fa
 abbrev pub limited : ℕ → Meaning → Meaning
 limited limit m = record { size = m.size; allowance = min limit m.allowance; held = m.held }
 
+-- the most granules that a backing has
+abbrev pub most_granules : ℕ
+most_granules = 1024
+
 -- what holds of every backing
 pub record Sound (m : Meaning) : Type 0 where
   pub some : 1 ≤ m.size
-  pub bounded : m.size ≤ 1024
+  pub bounded : m.size ≤ most_granules
   pub allowed : m.allowance ≤ m.size
   pub within : count m ≤ m.allowance
   pub none_past : (g : ℕ) → m.size ≤ g → m.held g ≡ false

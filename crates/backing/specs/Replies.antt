@@ -1,7 +1,8 @@
 -- Answers as their reader sees them: a number, or a refusal's number with the values that it carries.
-use Rattle.std.specs.Prelude.{ℕ, ◌+◌, cond, List, [], ◌∷◌, ◌++◌, Ok, Err, codes, decimal, Result}
+use Rattle.std.specs.Prelude.{ℕ, ◌+◌, if◌then◌else◌, List, [], ◌∷◌, ◌++◌, Ok, Err, codes, decimal, Result}
 use Rattle.backing.specs.declared.refusals.Refusal.{Refusal}
 use Rattle.backing.specs.declared.refusals.Refusal.TheVariants.{LimitBelowCount, BadMaking, OutsideBacking, OverAllowance}
+use Rattle.backing.specs.declared.stretches.Span.{Span}
 use Rattle.backing.specs.Meaning.{Meaning, present, missing, room, inside, affordable}
 
 pub data Reply : Type 0 where
@@ -35,21 +36,26 @@ abbrev pub reply : Result ℕ Refusal → Reply
 reply (Ok k) = accepted k
 reply (Err e) = told e
 
+-- where the span ends that a call answers, or its refusal
+abbrev pub span_end : Result Span Refusal → Result ℕ Refusal
+span_end (Ok span) = Ok span.end
+span_end (Err e) = Err e
+
 -- where a stretch of a backing ends
 abbrev pub stretch_end : ℕ → ℕ → ℕ → Result ℕ Refusal
-stretch_end size first n = cond (inside size first n) (Ok (first + n)) (Err OutsideBacking)
+stretch_end size first n = if inside size first n then Ok (first + n) else Err OutsideBacking
 
 -- how many granules of a stretch are not committed
 unfoldable pub missing_reply : Meaning → ℕ → ℕ → Reply
-missing_reply m first n = cond (inside m.size first n) (accepted (missing m first n)) (refused 20 [])
+missing_reply m first n = if inside m.size first n then accepted (missing m first n) else told OutsideBacking
 
 -- a commit answers how many granules it added
 unfoldable pub commit_reply : Meaning → ℕ → ℕ → Reply
 commit_reply m first n =
-    cond (inside m.size first n)
-    (cond (affordable m first n) (accepted (missing m first n)) (refused 21 (missing m first n ∷ room m ∷ [])))
-    (refused 20 [])
+    if inside m.size first n
+    then (if affordable m first n then accepted (missing m first n) else told (OverAllowance (missing m first n) (room m)))
+    else told OutsideBacking
 
 -- a release answers how many granules it removed
 unfoldable pub release_reply : Meaning → ℕ → ℕ → Reply
-release_reply m first n = cond (inside m.size first n) (accepted (present m first n)) (refused 20 [])
+release_reply m first n = if inside m.size first n then accepted (present m first n) else told OutsideBacking

@@ -2,38 +2,31 @@
 ghost use Rattle.backing.specs.Laws.{RefusalsChangeNothing, AnswersAreCountChanges, CallsTurnTheirStretch};
 ghost use Rattle.backing.specs.Laws.{CallsKeepBackingsSound, FullAllowanceNeverRefuses, LimitersJoin};
 
-pub fn refusals_change_nothing() -> u8
+#[tactic(auto, unfolding(crate::specs::Meaning::commit_after, crate::specs::Meaning::release_after, crate::specs::Replies::commit_reply, crate::specs::Replies::release_reply))]
+pub fn refusals_change_nothing()
     ensures { RefusalsChangeNothing }
-{
-    0
-}
+{}
 
-pub fn answers_are_count_changes() -> u8
+#[tactic(auto, using(crate::proofs::Lawful::commit_counted, crate::proofs::Lawful::release_counted))]
+pub fn answers_are_count_changes()
     ensures { AnswersAreCountChanges }
-{
-    0
-}
+{}
 
-pub fn calls_turn_their_stretch() -> u8
+#[tactic(auto, unfolding(crate::specs::Meaning::commit_after, crate::specs::Meaning::release_after, crate::specs::Replies::commit_reply, crate::specs::Replies::release_reply))]
+pub fn calls_turn_their_stretch()
     ensures { CallsTurnTheirStretch }
-{
-    0
-}
+{}
 
-pub fn calls_keep_backings_sound() -> u8
+#[tactic(auto, using(crate::proofs::Lawful::calls_keep_backings_sound_lem))]
+pub fn calls_keep_backings_sound()
     ensures { CallsKeepBackingsSound }
-{
-    0
-}
+{}
 
-pub fn full_allowance_never_refuses() -> u8
+#[tactic(auto, using(crate::proofs::Lawful::all_affordable), unfolding(crate::specs::Replies::commit_reply))]
+pub fn full_allowance_never_refuses()
     ensures { FullAllowanceNeverRefuses }
-{
-    0
-}
+{}
 
-pub fn limiters_join() -> u8
+pub fn limiters_join()
     ensures { LimitersJoin }
-{
-    0
-}
+{}

@@ -5,10 +5,14 @@ mod bits;
 mod interface;
 pub mod laws;
 mod limits;
+mod makings;
 mod masks;
 mod refusals;
+mod stretches;
 
-pub use interface::{Backing, end_of};
+pub use interface::Backing;
 pub use limits::Limiter;
+pub use makings::{MOST_GRANULES, is_enough};
 pub use masks::Mask;
 pub use refusals::{Refusal, Refused};
+pub use stretches::{Span, Stretch};

@@ -1,27 +1,29 @@
 // A backing that allows no more than its limit of the backing below it.
-ghost use Rattle.std.specs.Prelude.{◌≡◌, ◌+◌, ◌≤◌, MatchResult};
-ghost use Rattle.backing.specs.Meaning.{count, missing, commit_after};
-ghost use Rattle.backing.specs.Replies.{told, commit_reply};
-ghost use Rattle.backing.specs.Makings.{making, limiter_making};
-ghost use Rattle.backing.specs.Limits.{LimiterOk, limiter_means};
-ghost use Rattle.backing.specs.Soundness.{limiter_sound};
+ghost use Rattle.std.specs.Prelude.{◌≤◌};
+ghost use Rattle.backing.specs.Meaning.{count};
 
 use crate::interface::Backing;
 use crate::refusals::{Refusal, Refused};
+use crate::stretches::Stretch;
 
-#[derive(Drop)]
-pub struct Limiter<B> {
+#[derive(Debug, Drop)]
+pub struct Limiter<B: Backing> {
     below: B,
     limit: u32,
+    ghost kept_to: { count (B.means below) ≤ limit },
 }
 
 impl<B: Backing> Limiter<B> {
-    // A limiter on top of a backing that has no more committed than the limit.
+    ghost use Rattle.std.specs.Prelude.{◌≡◌, ◌+◌, IfOk, IfErr, OnErr, MatchResult};
+    ghost use Rattle.backing.specs.Meaning.{missing, commit_after};
+    ghost use Rattle.backing.specs.Replies.{told, commit_reply};
+    ghost use Rattle.backing.specs.Makings.{making, limiter_making};
+    ghost use Rattle.backing.specs.Limits.{limiter_means};
+
+    /// A limiter on top of a backing that has no more committed than the limit.
     pub fn new(below: B, limit: u32) -> Result<Limiter<B>, Refused<B>>
-        requires { B.Backing.ok below }
-        ensures answer { making (limiter_means B.Backing.means) result ≡ limiter_making limit (B.Backing.means below) }
+        ensures answer { making limiter_means result ≡ limiter_making limit (B.Backing.means below) }
         ensures holds { MatchResult result (λ l. (l.below ≡ below) × (l.limit ≡ limit)) (λ e. e.back ≡ below) }
-        ensures valid { MatchResult result (LimiterOk B.Backing.means B.Backing.ok) (λ e. B.Backing.ok e.back) }
     {
         if limit < below.count() {
             return Err(Refused {
@@ -32,24 +34,24 @@ impl<B: Backing> Limiter<B> {
         Ok(Limiter { below, limit })
     }
 
-    // The backing below, with the limit taken off.
+    /// The backing below, with the limit taken off.
     pub fn into_below(self) -> B
-        requires { LimiterOk B.Backing.means B.Backing.ok self }
-        ensures same { result ≡ self.below }
-        ensures valid { B.Backing.ok result }
+        ensures { result ≡ self.below }
     {
         let Limiter { below, limit: _ } = self;
         below
     }
 
     // Refuses a commit that the limit alone stands against.
-    fn check_limit(&self, first: u32, n: u32) -> Result<(), Refusal>
-        requires { LimiterOk B.Backing.means B.Backing.ok self.now }
-        ensures { MatchResult result (λ _. count (B.Backing.means self.now.below) + missing (B.Backing.means self.now.below) first n ≤ self.now.limit) (λ e. (told e ≡ commit_reply (limiter_means B.Backing.means self.now) first n) × (limiter_means B.Backing.means self.now ≡ commit_after (limiter_means B.Backing.means self.now) first n)) }
+    #[tactic(auto, using(crate::specs::Soundness::tally_le), unfolding(crate::specs::Meaning::commit_after, crate::specs::Replies::commit_reply, crate::specs::Replies::missing_reply))]
+    fn check_limit(&self, stretch: Stretch) -> Result<(), Refusal>
+        ensures fits { IfOk result (λ _. count (B.Backing.means self.now.below) + missing (B.Backing.means self.now.below) stretch.first stretch.count ≤ self.now.limit) }
+        ensures answer { IfErr result (λ e. told e ≡ commit_reply (limiter_means self.now) stretch.first stretch.count) }
+        ensures stays { OnErr result (limiter_means self.now ≡ commit_after (limiter_means self.now) stretch.first stretch.count) }
     {
         let left = self.limit - self.count();
-        if n > left {
-            let wanted = self.missing(first, n)?;
+        if stretch.count > left {
+            let wanted = self.missing(stretch)?;
             if wanted > left {
                 let left = left.min(self.below.room());
                 return Err(Refusal::OverAllowance { wanted, left });
@@ -60,11 +62,12 @@ impl<B: Backing> Limiter<B> {
 }
 
 impl<B: Backing> Backing for Limiter<B> {
-    ghost means = { limiter_means B.Backing.means };
+    ghost use Rattle.backing.specs.Limits.{limiter_means};
+    ghost use Rattle.backing.specs.Soundness.{limiter_sound};
 
-    ghost ok = { LimiterOk B.Backing.means B.Backing.ok };
+    ghost means = { limiter_means };
 
-    ghost sound = { limiter_sound B.Backing.means B.Backing.ok B.Backing.sound };
+    ghost sound = { limiter_sound };
 
     ghost Spare = { B.Backing.Spare };
 
@@ -86,16 +89,19 @@ impl<B: Backing> Backing for Limiter<B> {
         self.below.held(granule)
     }
 
-    fn commit(&mut self, first: u32, n: u32) -> Result<u32, Refusal> {
-        self.check_limit(first, n)?;
-        self.below.commit(first, n)
+    #[tactic(auto, using(crate::proofs::Lawful::commit_adds), unfolding(crate::specs::Meaning::commit_after, crate::specs::Replies::commit_reply))]
+    fn commit(&mut self, stretch: Stretch) -> Result<u32, Refusal> {
+        self.check_limit(stretch)?;
+        self.below.commit(stretch)
     }
 
-    fn release(&mut self, first: u32, n: u32) -> Result<u32, Refusal> {
-        self.below.release(first, n)
+    #[tactic(auto, using(crate::proofs::Lawful::release_fewer), unfolding(crate::specs::Meaning::release_after, crate::specs::Replies::release_reply))]
+    fn release(&mut self, stretch: Stretch) -> Result<u32, Refusal> {
+        self.below.release(stretch)
     }
 
-    fn missing(&self, first: u32, n: u32) -> Result<u32, Refusal> {
-        self.below.missing(first, n)
+    #[tactic(auto, unfolding(crate::specs::Replies::missing_reply))]
+    fn missing(&self, stretch: Stretch) -> Result<u32, Refusal> {
+        self.below.missing(stretch)
     }
 }

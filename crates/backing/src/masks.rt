@@ -1,37 +1,40 @@
 // A backing in bytes that the caller lends, one bit a granule.
-ghost use Rattle.std.specs.Prelude.{◌≡◌, ℕ, List, length, IfOk, if◌then◌else◌, MatchResult};
-ghost use Rattle.backing.specs.Makings.{making, mask_making};
-ghost use Rattle.backing.specs.Meaning.{commit_after, release_after};
-ghost use Rattle.backing.specs.Replies.{reply, commit_reply, release_reply};
-ghost use Rattle.backing.specs.Masks.{MaskOk, mask_means, spare_bytes};
-ghost use Rattle.backing.specs.Soundness.{mask_sound};
+ghost use Rattle.std.specs.Prelude.{ℕ, List};
+ghost use Rattle.backing.specs.Bits.{MaskOk};
 
 use crate::bits;
-use crate::interface::{Backing, end_of};
+use crate::interface::Backing;
+use crate::makings::is_enough;
 use crate::refusals::{Refusal, Refused};
+use crate::stretches::{Span, Stretch};
 
-#[derive(Drop)]
+#[derive(Debug, Drop)]
 pub struct Mask<'a> {
     bytes: &'a mut [u8],
     size: u32,
     count: u32,
+    ghost ok: { MaskOk bytes.now size count },
 }
 
 impl<'a> Mask<'a> {
-    // A mask of `size` granules, none committed, in the first of the bytes.
+    ghost use Rattle.std.specs.Prelude.{◌≡◌, ◌-◌, ◌≤◌, length, MatchResult};
+    ghost use Rattle.backing.specs.Makings.{making, mask_making};
+    ghost use Rattle.backing.specs.Masks.{mask_means, spare_bytes};
+    ghost use Rattle.backing.specs.Meaning.{present};
+
+    /// A mask of `size` granules, none committed, in the first of the bytes.
     pub fn new(bytes: &'a mut [u8], size: u32) -> Result<Mask<'a>, Refused<&'a mut [u8]>>
         ensures answer { making mask_means result ≡ mask_making size (length bytes.old) }
         ensures spares { MatchResult result (λ m. spare_bytes size m.bytes.now ≡ spare_bytes size bytes.old) (λ e. e.back.now ≡ bytes.old) }
-        ensures valid { IfOk result MaskOk }
     {
-        let needed = (size as usize + 7) / 8;
-        if size == 0 || size > 1024 || bytes.len() < needed {
+        let needed = size.div_ceil(8) as usize;
+        if !is_enough(size, needed, bytes.len()) {
             return Err(Refused {
                 why: Refusal::BadMaking,
                 back: bytes,
             });
         }
-        bits::clear(bytes, needed);
+        bytes[..needed].fill(0);
         Ok(Mask {
             bytes,
             size,
@@ -39,7 +42,7 @@ impl<'a> Mask<'a> {
         })
     }
 
-    // The bytes, as the mask leaves them.
+    /// The bytes, as the mask leaves them.
     pub fn into_bytes(self) -> &'a mut [u8]
         ensures { result.now ≡ self.entry.bytes.now }
     {
@@ -47,30 +50,21 @@ impl<'a> Mask<'a> {
         bytes
     }
 
-    // Commits or releases a stretch, and answers how many granules changed.
-    fn turn(&mut self, first: u32, n: u32, on: bool) -> Result<u32, Refusal>
-        requires { MaskOk self.old }
-        ensures answer { reply result ≡ (if on then commit_reply (mask_means self.old) first n else release_reply (mask_means self.old) first n) }
-        ensures after { mask_means self.new ≡ (if on then commit_after (mask_means self.old) first n else release_after (mask_means self.old) first n) }
-        ensures spares { spare_bytes self.new.size self.new.bytes.now ≡ spare_bytes self.old.size self.old.bytes.now }
-        ensures valid { MaskOk self.new }
+    // How many granules of a span are committed.
+    #[tactic(auto, using(crate::proofs::Marks::bits_present))]
+    fn present(&self, span: Span) -> u32
+        requires { span.end ≤ self.now.size }
+        ensures { result ≡ present (mask_means self.now) span.first (span.end - span.first) }
     {
-        let absent = self.missing(first, n)?;
-        bits::set_all(self.bytes, first, first + n, on);
-        if on {
-            self.count += absent;
-            return Ok(absent);
-        }
-        let removed = n - absent;
-        self.count -= removed;
-        Ok(removed)
+        bits::count_set(self.bytes, span)
     }
 }
 
 impl Backing for Mask<'_> {
-    ghost means = { mask_means };
+    ghost use Rattle.backing.specs.Masks.{mask_means, spare_bytes};
+    ghost use Rattle.backing.specs.Soundness.{mask_sound};
 
-    ghost ok = { MaskOk };
+    ghost means = { mask_means };
 
     ghost sound = { mask_sound };
 
@@ -94,16 +88,27 @@ impl Backing for Mask<'_> {
         granule < self.size && bits::is_set(self.bytes, granule)
     }
 
-    fn commit(&mut self, first: u32, n: u32) -> Result<u32, Refusal> {
-        self.turn(first, n, true)
+    #[tactic(auto, using(crate::specs::Soundness::tally_le), unfolding(crate::specs::Meaning::commit_after, crate::specs::Replies::commit_reply))]
+    fn commit(&mut self, stretch: Stretch) -> Result<u32, Refusal> {
+        let span = stretch.within(self.size)?;
+        let added = span.count() - self.present(span);
+        bits::set(self.bytes, span);
+        self.count += added;
+        Ok(added)
     }
 
-    fn release(&mut self, first: u32, n: u32) -> Result<u32, Refusal> {
-        self.turn(first, n, false)
+    #[tactic(auto, using(crate::specs::Soundness::tally_le), unfolding(crate::specs::Meaning::release_after, crate::specs::Replies::release_reply))]
+    fn release(&mut self, stretch: Stretch) -> Result<u32, Refusal> {
+        let span = stretch.within(self.size)?;
+        let removed = self.present(span);
+        bits::clear(self.bytes, span);
+        self.count -= removed;
+        Ok(removed)
     }
 
-    fn missing(&self, first: u32, n: u32) -> Result<u32, Refusal> {
-        let end = end_of(self.size, first, n)?;
-        Ok(n - bits::count_set(self.bytes, first, end))
+    #[tactic(auto, using(crate::specs::Soundness::tally_le, crate::proofs::Tallies::tally_both), unfolding(crate::specs::Replies::missing_reply))]
+    fn missing(&self, stretch: Stretch) -> Result<u32, Refusal> {
+        let span = stretch.within(self.size)?;
+        Ok(span.count() - self.present(span))
     }
 }

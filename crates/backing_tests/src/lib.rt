@@ -6,7 +6,7 @@ mod run_lists;
 
 #[cfg(test)]
 mod tests {
-    use backing::{Backing, Limiter, Mask, Refusal};
+    use backing::{Backing, Limiter, MOST_GRANULES, Mask, Refusal, Stretch, is_enough};
     use std::process::Abort;
     use std::test::Fail;
 
@@ -17,9 +17,7 @@ mod tests {
     impl<B: Backing> Backing for Plain<B> {
         ghost means = { λ x. B.Backing.means x.0 };
 
-        ghost ok = { λ x. B.Backing.ok x.0 };
-
-        ghost sound = { λ x valid. B.Backing.sound x.0 valid };
+        ghost sound = { λ x. B.Backing.sound x.0 };
 
         ghost Spare = { B.Backing.Spare };
 
@@ -41,29 +39,31 @@ mod tests {
             self.0.held(granule)
         }
 
-        fn commit(&mut self, first: u32, n: u32) -> Result<u32, Refusal> {
-            self.0.commit(first, n)
+        fn commit(&mut self, stretch: Stretch) -> Result<u32, Refusal> {
+            self.0.commit(stretch)
         }
 
-        fn release(&mut self, first: u32, n: u32) -> Result<u32, Refusal> {
-            self.0.release(first, n)
+        fn release(&mut self, stretch: Stretch) -> Result<u32, Refusal> {
+            self.0.release(stretch)
         }
     }
 
-    const OUTSIDE: Result<u32, Refusal> = Err(Refusal::OutsideBacking);
+    pub(crate) const OUTSIDE: Result<u32, Refusal> = Err(Refusal::OutsideBacking);
+
+    pub(crate) fn stretch(first: u32, count: u32) -> Stretch {
+        Stretch { first, count }
+    }
 
     #[test]
     fn one_granule(rt: HostRuntime) -> Result<(), Fail> {
         let mut bytes = [0xff];
-        let Ok(mut mask) = Mask::new(&mut bytes, 1) else {
-            return Err(Fail::new("refused"));
-        };
+        let mut mask = Mask::new(&mut bytes, 1)?;
         assert_eq!(rt; mask.held(0), false);
-        assert_eq!(rt; mask.commit(0, 1), Ok(1));
+        assert_eq!(rt; mask.commit(stretch(0, 1)), Ok(1));
         assert_eq!(rt; mask.held(0), true);
         assert_eq!(rt; mask.held(1), false);
-        assert_eq!(rt; mask.commit(1, 1), OUTSIDE);
-        assert_eq!(rt; mask.release(0, 1), Ok(1));
+        assert_eq!(rt; mask.commit(stretch(1, 1)), OUTSIDE);
+        assert_eq!(rt; mask.release(stretch(0, 1)), Ok(1));
         assert_eq!(rt; mask.count(), 0);
         Ok(())
     }
@@ -71,15 +71,13 @@ mod tests {
     #[test]
     fn most_granules(rt: HostRuntime) -> Result<(), Fail> {
         let mut bytes = [0; 128];
-        let Ok(mut mask) = Mask::new(&mut bytes, 1024) else {
-            return Err(Fail::new("refused"));
-        };
-        assert_eq!(rt; mask.commit(1023, 1), Ok(1));
-        assert_eq!(rt; mask.missing(0, 1024), Ok(1023));
-        assert_eq!(rt; mask.commit(0, 1024), Ok(1023));
+        let mut mask = Mask::new(&mut bytes, 1024)?;
+        assert_eq!(rt; mask.commit(stretch(1023, 1)), Ok(1));
+        assert_eq!(rt; mask.missing(stretch(0, 1024)), Ok(1023));
+        assert_eq!(rt; mask.commit(stretch(0, 1024)), Ok(1023));
         assert_eq!(rt; mask.room(), 0);
-        assert_eq!(rt; mask.commit(0, 1025), OUTSIDE);
-        assert_eq!(rt; mask.release(1, 1023), Ok(1023));
+        assert_eq!(rt; mask.commit(stretch(0, 1025)), OUTSIDE);
+        assert_eq!(rt; mask.release(stretch(1, 1023)), Ok(1023));
         assert_eq!(rt; mask.held(0), true);
         Ok(())
     }
@@ -87,14 +85,12 @@ mod tests {
     #[test]
     fn sums_do_not_wrap(rt: HostRuntime) -> Result<(), Fail> {
         let mut bytes = [0; 1];
-        let Ok(mut mask) = Mask::new(&mut bytes, 8) else {
-            return Err(Fail::new("refused"));
-        };
-        assert_eq!(rt; mask.commit(u32::MAX, u32::MAX), OUTSIDE);
-        assert_eq!(rt; mask.commit(1, u32::MAX), OUTSIDE);
-        assert_eq!(rt; mask.release(u32::MAX, 1), OUTSIDE);
-        assert_eq!(rt; mask.missing(2, u32::MAX - 1), OUTSIDE);
-        assert_eq!(rt; mask.commit(3, 0), OUTSIDE);
+        let mut mask = Mask::new(&mut bytes, 8)?;
+        assert_eq!(rt; mask.commit(stretch(u32::MAX, u32::MAX)), OUTSIDE);
+        assert_eq!(rt; mask.commit(stretch(1, u32::MAX)), OUTSIDE);
+        assert_eq!(rt; mask.release(stretch(u32::MAX, 1)), OUTSIDE);
+        assert_eq!(rt; mask.missing(stretch(2, u32::MAX - 1)), OUTSIDE);
+        assert_eq!(rt; mask.commit(stretch(3, 0)), OUTSIDE);
         assert_eq!(rt; mask.held(u32::MAX), false);
         assert_eq!(rt; mask.count(), 0);
         Ok(())
@@ -103,18 +99,16 @@ mod tests {
     #[test]
     fn spare_bytes_stay(rt: HostRuntime) -> Result<(), Fail> {
         let mut bytes = [0xaa; 4];
-        let Ok(mut mask) = Mask::new(&mut bytes, 10) else {
-            return Err(Fail::new("refused"));
-        };
-        assert_eq!(rt; mask.commit(7, 3), Ok(3));
-        assert_eq!(rt; mask.commit(7, 4), OUTSIDE);
-        assert_eq!(rt; mask.release(8, 1), Ok(1));
+        let mut mask = Mask::new(&mut bytes, 10)?;
+        assert_eq!(rt; mask.commit(stretch(7, 3)), Ok(3));
+        assert_eq!(rt; mask.commit(stretch(7, 4)), OUTSIDE);
+        assert_eq!(rt; mask.release(stretch(8, 1)), Ok(1));
         let left: &[u8] = mask.into_bytes();
         assert_eq!(rt; left, [0x80, 0x02, 0xaa, 0xaa].as_slice());
         Ok(())
     }
 
-    // No mask of this size fits into two bytes.
+    // No mask of this size fits into two bytes. The run list has its own: a function over either's memory has no proof.
     fn leaves_two_bytes(rt: &impl Abort, size: u32) -> Result<(), Fail> {
         let mut bytes = [0xaa; 2];
         match Mask::new(&mut bytes, size) {
@@ -140,15 +134,13 @@ mod tests {
     #[test]
     fn bodies_of_the_trait(rt: HostRuntime) -> Result<(), Fail> {
         let mut bytes = [0; 3];
-        let Ok(mut mask) = Mask::new(&mut bytes, 20) else {
-            return Err(Fail::new("refused"));
-        };
-        assert_eq!(rt; mask.commit(5, 9), Ok(9));
+        let mut mask = Mask::new(&mut bytes, 20)?;
+        assert_eq!(rt; mask.commit(stretch(5, 9)), Ok(9));
         let plain = Plain(mask);
-        assert_eq!(rt; plain.missing(0, 20), Ok(11));
-        assert_eq!(rt; plain.missing(4, 3), Ok(1));
-        assert_eq!(rt; plain.missing(13, 8), OUTSIDE);
-        assert_eq!(rt; plain.missing(7, 0), OUTSIDE);
+        assert_eq!(rt; plain.missing(stretch(0, 20)), Ok(11));
+        assert_eq!(rt; plain.missing(stretch(4, 3)), Ok(1));
+        assert_eq!(rt; plain.missing(stretch(13, 8)), OUTSIDE);
+        assert_eq!(rt; plain.missing(stretch(7, 0)), OUTSIDE);
         assert_eq!(rt; plain.room(), 11);
         Ok(())
     }
@@ -156,31 +148,25 @@ mod tests {
     #[test]
     fn limit_of_none(rt: HostRuntime) -> Result<(), Fail> {
         let mut bytes = [0; 1];
-        let Ok(mask) = Mask::new(&mut bytes, 8) else {
-            return Err(Fail::new("refused"));
-        };
-        let Ok(mut limiter) = Limiter::new(mask, 0) else {
-            return Err(Fail::new("refused"));
-        };
+        let mask = Mask::new(&mut bytes, 8)?;
+        let mut limiter = Limiter::new(mask, 0)?;
         let over = Refusal::OverAllowance { wanted: 1, left: 0 };
-        assert_eq!(rt; limiter.commit(7, 1), Err(over));
-        assert_eq!(rt; limiter.release(0, 8), Ok(0));
-        assert_eq!(rt; limiter.into_below().commit(7, 1), Ok(1));
+        assert_eq!(rt; limiter.commit(stretch(7, 1)), Err(over));
+        assert_eq!(rt; limiter.release(stretch(0, 8)), Ok(0));
+        assert_eq!(rt; limiter.into_below().commit(stretch(7, 1)), Ok(1));
         Ok(())
     }
 
     #[test]
     fn limit_below_the_count(rt: HostRuntime) -> Result<(), Fail> {
         let mut bytes = [0; 1];
-        let Ok(mut mask) = Mask::new(&mut bytes, 8) else {
-            return Err(Fail::new("refused"));
-        };
-        assert_eq!(rt; mask.commit(2, 3), Ok(3));
+        let mut mask = Mask::new(&mut bytes, 8)?;
+        assert_eq!(rt; mask.commit(stretch(2, 3)), Ok(3));
         match Limiter::new(mask, 2) {
             Ok(_) => Err(Fail::new("made")),
             Err(refused) => {
                 assert_eq!(rt; refused.why, Refusal::LimitBelowCount);
-                assert_eq!(rt; refused.back.missing(0, 8), Ok(5));
+                assert_eq!(rt; refused.back.missing(stretch(0, 8)), Ok(5));
                 Ok(())
             }
         }
@@ -189,22 +175,47 @@ mod tests {
     #[test]
     fn refused_in_a_held_stretch(rt: HostRuntime) -> Result<(), Fail> {
         let mut bytes = [0; 2];
-        let Ok(mut mask) = Mask::new(&mut bytes, 12) else {
-            return Err(Fail::new("refused"));
-        };
-        assert_eq!(rt; mask.commit(3, 2), Ok(2));
-        let Ok(lower) = Limiter::new(mask, 4) else {
-            return Err(Fail::new("refused"));
-        };
-        let Ok(mut upper) = Limiter::new(lower, 9) else {
-            return Err(Fail::new("refused"));
-        };
+        let mut mask = Mask::new(&mut bytes, 12)?;
+        assert_eq!(rt; mask.commit(stretch(3, 2)), Ok(2));
+        let lower = Limiter::new(mask, 4)?;
+        let mut upper = Limiter::new(lower, 9)?;
         assert_eq!(rt; upper.allowance(), 4);
         let over = Refusal::OverAllowance { wanted: 4, left: 2 };
-        assert_eq!(rt; upper.commit(2, 6), Err(over));
-        assert_eq!(rt; upper.missing(2, 6), Ok(4));
-        assert_eq!(rt; upper.commit(4, 3), Ok(2));
+        assert_eq!(rt; upper.commit(stretch(2, 6)), Err(over));
+        assert_eq!(rt; upper.missing(stretch(2, 6)), Ok(4));
+        assert_eq!(rt; upper.commit(stretch(4, 3)), Ok(2));
         assert_eq!(rt; upper.count(), 4);
+        Ok(())
+    }
+
+    #[test]
+    fn spans_of_stretches(rt: HostRuntime) -> Result<(), Fail> {
+        let span = stretch(3, 4).within(7)?;
+        assert_eq!(rt; span.first, 3);
+        assert_eq!(rt; span.end, 7);
+        assert_eq!(rt; span.count(), 4);
+        assert_eq!(rt; stretch(3, 4).within(6).err(), OUTSIDE.err());
+        assert_eq!(rt; stretch(0, 0).within(6).err(), OUTSIDE.err());
+        Ok(())
+    }
+
+    #[test]
+    fn places_for_a_backing(rt: HostRuntime) {
+        assert!(rt; is_enough(1, 1, 1));
+        assert!(rt; is_enough(MOST_GRANULES, 128, 200));
+        assert!(rt; !is_enough(MOST_GRANULES + 1, 128, 200));
+        assert!(rt; !is_enough(0, 0, 200));
+        assert!(rt; !is_enough(9, 2, 1));
+    }
+
+    #[test]
+    fn refused_makings_by_their_reason(rt: HostRuntime) -> Result<(), Fail> {
+        let mut bytes = [0; 1];
+        let Err(refused) = Mask::new(&mut bytes, 9) else {
+            return Err(Fail::new("made"));
+        };
+        assert_eq!(rt; refused.to_string(rt.alloc())?.as_str(), "no 6");
+        assert_eq!(rt; Refusal::from(refused), Refusal::BadMaking);
         Ok(())
     }
 

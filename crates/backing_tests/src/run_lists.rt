@@ -1,12 +1,11 @@
 // Tests of the run list: runs that join, split and end at the edges.
+use crate::tests::{OUTSIDE, stretch};
 use backing::{Backing, Limiter, Refusal};
 use runs::{Run, RunList};
 use std::process::Abort;
 use std::test::Fail;
 
 const UNUSED: Run = Run { first: 9, count: 7 };
-
-const OUTSIDE: Result<u32, Refusal> = Err(Refusal::OutsideBacking);
 
 fn run(first: u32, count: u32) -> Run {
     Run { first, count }
@@ -15,13 +14,11 @@ fn run(first: u32, count: u32) -> Run {
 #[test]
 fn split_into_the_last_record(rt: HostRuntime) -> Result<(), Fail> {
     let mut records = [UNUSED; 4];
-    let Ok(mut list) = RunList::new(&mut records, 7) else {
-        return Err(Fail::new("refused"));
-    };
-    assert_eq!(rt; list.commit(0, 7), Ok(7));
-    assert_eq!(rt; list.release(3, 1), Ok(1));
-    assert_eq!(rt; list.release(5, 1), Ok(1));
-    assert_eq!(rt; list.release(1, 1), Ok(1));
+    let mut list = RunList::new(&mut records, 7)?;
+    assert_eq!(rt; list.commit(stretch(0, 7)), Ok(7));
+    assert_eq!(rt; list.release(stretch(3, 1)), Ok(1));
+    assert_eq!(rt; list.release(stretch(5, 1)), Ok(1));
+    assert_eq!(rt; list.release(stretch(1, 1)), Ok(1));
     assert_eq!(rt;
         list.runs(),
         [run(0, 1), run(2, 1), run(4, 1), run(6, 1)].as_slice()
@@ -33,15 +30,13 @@ fn split_into_the_last_record(rt: HostRuntime) -> Result<(), Fail> {
 #[test]
 fn full_records(rt: HostRuntime) -> Result<(), Fail> {
     let mut records = [UNUSED; 3];
-    let Ok(mut list) = RunList::new(&mut records, 6) else {
-        return Err(Fail::new("refused"));
-    };
-    assert_eq!(rt; list.commit(4, 2), Ok(2));
-    assert_eq!(rt; list.commit(0, 1), Ok(1));
-    assert_eq!(rt; list.commit(2, 1), Ok(1));
-    assert_eq!(rt; list.release(4, 1), Ok(1));
+    let mut list = RunList::new(&mut records, 6)?;
+    assert_eq!(rt; list.commit(stretch(4, 2)), Ok(2));
+    assert_eq!(rt; list.commit(stretch(0, 1)), Ok(1));
+    assert_eq!(rt; list.commit(stretch(2, 1)), Ok(1));
+    assert_eq!(rt; list.release(stretch(4, 1)), Ok(1));
     assert_eq!(rt; list.runs(), [run(0, 1), run(2, 1), run(5, 1)].as_slice());
-    assert_eq!(rt; list.commit(3, 2), Ok(2));
+    assert_eq!(rt; list.commit(stretch(3, 2)), Ok(2));
     assert_eq!(rt; list.runs(), [run(0, 1), run(2, 4)].as_slice());
     Ok(())
 }
@@ -49,16 +44,14 @@ fn full_records(rt: HostRuntime) -> Result<(), Fail> {
 #[test]
 fn joined_with_both_neighbours(rt: HostRuntime) -> Result<(), Fail> {
     let mut records = [UNUSED; 5];
-    let Ok(mut list) = RunList::new(&mut records, 10) else {
-        return Err(Fail::new("refused"));
-    };
-    assert_eq!(rt; list.commit(1, 2), Ok(2));
-    assert_eq!(rt; list.commit(5, 2), Ok(2));
-    assert_eq!(rt; list.commit(8, 1), Ok(1));
-    assert_eq!(rt; list.commit(3, 2), Ok(2));
+    let mut list = RunList::new(&mut records, 10)?;
+    assert_eq!(rt; list.commit(stretch(1, 2)), Ok(2));
+    assert_eq!(rt; list.commit(stretch(5, 2)), Ok(2));
+    assert_eq!(rt; list.commit(stretch(8, 1)), Ok(1));
+    assert_eq!(rt; list.commit(stretch(3, 2)), Ok(2));
     assert_eq!(rt; list.runs(), [run(1, 6), run(8, 1)].as_slice());
-    assert_eq!(rt; list.missing(0, 10), Ok(3));
-    assert_eq!(rt; list.commit(2, 3), Ok(0));
+    assert_eq!(rt; list.missing(stretch(0, 10)), Ok(3));
+    assert_eq!(rt; list.commit(stretch(2, 3)), Ok(0));
     assert_eq!(rt; list.runs(), [run(1, 6), run(8, 1)].as_slice());
     Ok(())
 }
@@ -66,15 +59,13 @@ fn joined_with_both_neighbours(rt: HostRuntime) -> Result<(), Fail> {
 #[test]
 fn one_commit_over_many_runs(rt: HostRuntime) -> Result<(), Fail> {
     let mut records = [UNUSED; 10];
-    let Ok(mut list) = RunList::new(&mut records, 20) else {
-        return Err(Fail::new("refused"));
-    };
+    let mut list = RunList::new(&mut records, 20)?;
     for k in 0..6 {
-        assert_eq!(rt; list.commit(3 * k, 2), Ok(2));
+        assert_eq!(rt; list.commit(stretch(3 * k, 2)), Ok(2));
     }
-    assert_eq!(rt; list.commit(4, 9), Ok(3));
+    assert_eq!(rt; list.commit(stretch(4, 9)), Ok(3));
     assert_eq!(rt; list.runs(), [run(0, 2), run(3, 11), run(15, 2)].as_slice());
-    assert_eq!(rt; list.release(1, 15), Ok(13));
+    assert_eq!(rt; list.release(stretch(1, 15)), Ok(13));
     assert_eq!(rt; list.runs(), [run(0, 1), run(16, 1)].as_slice());
     Ok(())
 }
@@ -82,18 +73,16 @@ fn one_commit_over_many_runs(rt: HostRuntime) -> Result<(), Fail> {
 #[test]
 fn every_second_granule(rt: HostRuntime) -> Result<(), Fail> {
     let mut records = [UNUSED; 512];
-    let Ok(mut list) = RunList::new(&mut records, 1024) else {
-        return Err(Fail::new("refused"));
-    };
+    let mut list = RunList::new(&mut records, 1024)?;
     for k in 0..512 {
-        assert_eq!(rt; list.commit(2 * k, 1), Ok(1));
+        assert_eq!(rt; list.commit(stretch(2 * k, 1)), Ok(1));
     }
     assert_eq!(rt; list.runs().len(), 512);
     assert_eq!(rt; list.held(1022), true);
     assert_eq!(rt; list.held(1023), false);
-    assert_eq!(rt; list.commit(0, 1024), Ok(512));
+    assert_eq!(rt; list.commit(stretch(0, 1024)), Ok(512));
     assert_eq!(rt; list.runs(), [run(0, 1024)].as_slice());
-    assert_eq!(rt; list.release(0, 1024), Ok(1024));
+    assert_eq!(rt; list.release(stretch(0, 1024)), Ok(1024));
     assert_eq!(rt; list.runs(), [].as_slice());
     Ok(())
 }
@@ -101,18 +90,16 @@ fn every_second_granule(rt: HostRuntime) -> Result<(), Fail> {
 #[test]
 fn first_and_last(rt: HostRuntime) -> Result<(), Fail> {
     let mut records = [UNUSED; 512];
-    let Ok(mut list) = RunList::new(&mut records, 1024) else {
-        return Err(Fail::new("refused"));
-    };
-    assert_eq!(rt; list.commit(1023, 1), Ok(1));
-    assert_eq!(rt; list.commit(0, 1), Ok(1));
+    let mut list = RunList::new(&mut records, 1024)?;
+    assert_eq!(rt; list.commit(stretch(1023, 1)), Ok(1));
+    assert_eq!(rt; list.commit(stretch(0, 1)), Ok(1));
     assert_eq!(rt; list.runs(), [run(0, 1), run(1023, 1)].as_slice());
     assert_eq!(rt; list.held(1024), false);
-    assert_eq!(rt; list.commit(1023, 2), OUTSIDE);
-    assert_eq!(rt; list.commit(u32::MAX, u32::MAX), OUTSIDE);
-    assert_eq!(rt; list.release(0, 0), OUTSIDE);
-    assert_eq!(rt; list.release(0, 1), Ok(1));
-    assert_eq!(rt; list.release(1, 1023), Ok(1));
+    assert_eq!(rt; list.commit(stretch(1023, 2)), OUTSIDE);
+    assert_eq!(rt; list.commit(stretch(u32::MAX, u32::MAX)), OUTSIDE);
+    assert_eq!(rt; list.release(stretch(0, 0)), OUTSIDE);
+    assert_eq!(rt; list.release(stretch(0, 1)), Ok(1));
+    assert_eq!(rt; list.release(stretch(1, 1023)), Ok(1));
     assert_eq!(rt; list.count(), 0);
     Ok(())
 }
@@ -120,11 +107,9 @@ fn first_and_last(rt: HostRuntime) -> Result<(), Fail> {
 #[test]
 fn spare_records_stay(rt: HostRuntime) -> Result<(), Fail> {
     let mut records = [UNUSED; 4];
-    let Ok(mut list) = RunList::new(&mut records, 3) else {
-        return Err(Fail::new("refused"));
-    };
-    assert_eq!(rt; list.commit(0, 1), Ok(1));
-    assert_eq!(rt; list.commit(2, 1), Ok(1));
+    let mut list = RunList::new(&mut records, 3)?;
+    assert_eq!(rt; list.commit(stretch(0, 1)), Ok(1));
+    assert_eq!(rt; list.commit(stretch(2, 1)), Ok(1));
     let left: &[Run] = list.into_records();
     assert_eq!(rt; left, [run(0, 1), run(2, 1), UNUSED, UNUSED].as_slice());
     Ok(())
@@ -156,15 +141,11 @@ fn refused_lists_leave_the_records(rt: HostRuntime) -> Result<(), Fail> {
 #[test]
 fn under_a_limiter(rt: HostRuntime) -> Result<(), Fail> {
     let mut records = [UNUSED; 4];
-    let Ok(list) = RunList::new(&mut records, 8) else {
-        return Err(Fail::new("refused"));
-    };
-    let Ok(mut limiter) = Limiter::new(list, 3) else {
-        return Err(Fail::new("refused"));
-    };
-    assert_eq!(rt; limiter.commit(2, 2), Ok(2));
+    let list = RunList::new(&mut records, 8)?;
+    let mut limiter = Limiter::new(list, 3)?;
+    assert_eq!(rt; limiter.commit(stretch(2, 2)), Ok(2));
     let over = Refusal::OverAllowance { wanted: 2, left: 1 };
-    assert_eq!(rt; limiter.commit(1, 4), Err(over));
+    assert_eq!(rt; limiter.commit(stretch(1, 4)), Err(over));
     assert_eq!(rt; limiter.into_below().runs(), [run(2, 2)].as_slice());
     Ok(())
 }

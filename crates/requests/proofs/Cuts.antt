@@ -1,27 +1,28 @@
 -- The words of a line that was cut at its first spaces. Assumes nothing.
-use Rattle.std.proofs.Common.{◌≡◌, ℕ, suc, true, false, eqb, ◌⊎◌, List, [], ◌∷◌, ◌++◌, Some, None, Option, sym, refl, ap, ◌∙◌, inl, inr, ⊎_elim, arith}
+use Rattle.std.proofs.Common.{◌≡◌, ℕ, true, false, eqb, ◌⊎◌, List, [], ◌∷◌, ◌++◌, Some, None, Option, Ok, Err, Result, sym, refl, ap, ◌∙◌, inl, inr, ⊎_elim}
+use Rattle.std.specs.List.{All, onto_first}
+use Rattle.std.specs.Option.{option_and_then}
+use Rattle.std.specs.Result.{IsErrAnd, result_ok}
 use Rattle.std.specs.Str.Iter.{LacksByte}
 use Rattle.std.specs.Char.{is_ascii_digit}
 use Rattle.std.specs.Str.{all_ascii_digits}
-use Rattle.std.proofs.lemmas.Bool.{cases_Bool, cond-true, cond-false, eqb-true, ne_eqb, and_left, and_right}
+use Rattle.std.proofs.lemmas.Bool.{cases_Bool, cond-false, eqb-true, ne_eqb, and_left, and_right}
+use Rattle.std.proofs.lemmas.List.{get_or_default}
+use Rattle.std.proofs.lemmas.List.Splits.{slice_split_none, slice_split_at, slice_split-cons_yes, slice_split-cons_no}
 use Rattle.requests.specs.declared.Request.{Request}
-use Rattle.requests.specs.Lines.{number_of, put_first, words_of, if_number, alone, with_one, with_two, spelled, request_of}
+use Rattle.requests.specs.Lines.{number_of, words_of, alone, with_one, with_two, spelled, request_of}
 
-first_other : (b : ℕ) (bs : List ℕ) → LacksByte 32 (b ∷ bs) → eqb b 32 ≡ false
-first_other b bs h = ne_eqb b 32 (h 0 (omega arith))
-
-rest_lacks : (b : ℕ) (bs : List ℕ) → LacksByte 32 (b ∷ bs) → LacksByte 32 bs
-rest_lacks b bs h k lt e = h (suc k) (omega arith) e
+-- a text with no space, as the lemmas on `slice_split` say it
+no_space : (bs : List ℕ) → LacksByte 32 bs → All (λ b. eqb b 32 ≡ false) bs
+no_space bs h k d l = ne_eqb _ 32 (λ e. h k l (get_or_default bs k 0 d l ∙ e))
 
 -- a line with no space is one word
 whole : (bs : List ℕ) → LacksByte 32 bs → words_of bs ≡ bs ∷ []
-whole [] h = refl
-whole (b ∷ bs) h = cond-false _ _ _ (first_other b bs h) ∙ ap (put_first b) (whole bs (rest_lacks b bs h))
+whole bs h = slice_split_none (λ b. eqb b 32) bs (no_space bs h)
 
 -- the first space ends the first word
 cut : (xs ys : List ℕ) → LacksByte 32 xs → words_of (xs ++ (32 ∷ ys)) ≡ xs ∷ words_of ys
-cut [] ys h = refl
-cut (x ∷ xs) ys h = cond-false _ _ _ (first_other x xs h) ∙ ap (put_first x) (cut xs ys (rest_lacks x xs h))
+cut xs ys h = slice_split_at (λ b. eqb b 32) xs 32 ys (no_space xs h) refl
 
 -- a text is one word, or it is more and has a byte that is no digit
 abbrev OneOrMore : List ℕ → List (List ℕ) → Type 0
@@ -31,8 +32,8 @@ some_word : (bs : List ℕ) → (w : List ℕ) × (more : List (List ℕ)) × (w
 some_word [] = ([], [], refl)
 some_word (b ∷ bs) =
     ⊎_elim
-    (λ t. ([], words_of bs, cond-true _ _ _ t))
-    (λ t. let s = some_word bs in (b ∷ s.0, s.1, cond-false _ _ _ t ∙ ap (put_first b) s.2))
+    (λ t. ([], words_of bs, slice_split-cons_yes _ b bs t))
+    (λ t. let s = some_word bs in (b ∷ s.0, s.1, slice_split-cons_no _ b bs t ∙ ap (onto_first b) s.2))
     (cases_Bool (eqb b 32))
 
 space_no_digit : (b : ℕ) → eqb b 32 ≡ true → is_ascii_digit b ≡ false
@@ -44,43 +45,48 @@ one_or_more (b ∷ bs) =
     ⊎_elim
     (λ t.
     let s = some_word bs in
-    inr ([], s.0, s.1, cond-true _ _ _ t ∙ ap (λ ws. [] ∷ ws) s.2, and_left _ _ (space_no_digit b t)))
+    inr ([], s.0, s.1, slice_split-cons_yes _ b bs t ∙ ap (λ ws. [] ∷ ws) s.2, and_left _ _ (space_no_digit b t)))
     (λ t.
     ⊎_elim
-    (λ e. inl (cond-false _ _ _ t ∙ ap (put_first b) e))
-    (λ s. inr (b ∷ s.0, s.1, s.2, cond-false _ _ _ t ∙ ap (put_first b) s.3, and_right _ _ s.4))
+    (λ e. inl (slice_split-cons_no _ b bs t ∙ ap (onto_first b) e))
+    (λ s. inr (b ∷ s.0, s.1, s.2, slice_split-cons_no _ b bs t ∙ ap (onto_first b) s.3, and_right _ _ s.4))
     (one_or_more bs))
     (cases_Bool (eqb b 32))
 
 no_number : (bs : List ℕ) → all_ascii_digits bs ≡ false → number_of bs ≡ None
 no_number bs h = cond-false _ _ _ (and_right _ _ (and_left _ _ h))
 
-never : (o : Option ℕ) → None ≡ if_number o (λ a. None)
+never : (o : Option ℕ) → None ≡ option_and_then {U = Request} (λ a. None) o
 never None = refl
 never (Some n) = refl
 
 pub alone_read : (line : List ℕ) → LacksByte 32 line → request_of line ≡ alone line
 alone_read line h = ap spelled (whole line h)
 
-pub one_read : (line word text : List ℕ) → line ≡ word ++ (32 ∷ text) → LacksByte 32 word → LacksByte 32 text → request_of line ≡ if_number (number_of text) (with_one word)
+pub one_read : (line word text : List ℕ) → line ≡ word ++ (32 ∷ text) → LacksByte 32 word → LacksByte 32 text → request_of line ≡ option_and_then (with_one word) (number_of text)
 one_read line word text e h k = ap request_of e ∙ ap spelled (cut word text h ∙ ap (λ ws. word ∷ ws) (whole text k))
 
 -- the second text may hold a space, but is then no number
-last_two : (word first second : List ℕ) → spelled (word ∷ first ∷ words_of second) ≡ if_number (number_of first) (λ a. if_number (number_of second) (with_two word a))
+last_two : (word first second : List ℕ) → spelled (word ∷ first ∷ words_of second) ≡ option_and_then (λ a. option_and_then (with_two word a) (number_of second)) (number_of first)
 last_two word first second =
     ⊎_elim
     (λ e. ap (λ ws. spelled (word ∷ first ∷ ws)) e)
     (λ s.
     ap (λ ws. spelled (word ∷ first ∷ ws)) s.3 ∙ never (number_of first)
-    ∙ ap (λ o. if_number (number_of first) (λ a. if_number o (with_two word a))) (sym (no_number second s.4)))
+    ∙ ap (λ o. option_and_then (λ a. option_and_then (with_two word a) o) (number_of first)) (sym (no_number second s.4)))
     (one_or_more second)
 
-pub two_read : (line word text first second : List ℕ) → line ≡ word ++ (32 ∷ text) → LacksByte 32 word → text ≡ first ++ (32 ∷ second) → LacksByte 32 first → request_of line ≡ if_number (number_of first) (λ a. if_number (number_of second) (with_two word a))
+pub two_read : (line word text first second : List ℕ) → line ≡ word ++ (32 ∷ text) → LacksByte 32 word → text ≡ first ++ (32 ∷ second) → LacksByte 32 first → request_of line ≡ option_and_then (λ a. option_and_then (with_two word a) (number_of second)) (number_of first)
 two_read line word text first second e h f k =
     ap request_of e ∙ ap spelled (cut word text h ∙ ap (λ ws. word ∷ ws) (ap words_of f ∙ cut first second k)) ∙ last_two word first second
 
-pub given : (o : Option ℕ) (n : ℕ) (f : ℕ → Option Request) → Some n ≡ o → if_number o f ≡ f n
-given o n f e = ap (λ x. if_number x f) (sym e)
+pub given : (o : Option ℕ) (n : ℕ) (f : ℕ → Option Request) → Some n ≡ o → option_and_then f o ≡ f n
+given o n f e = ap (option_and_then f) (sym e)
 
-pub missing : (o : Option ℕ) (f : ℕ → Option Request) → None ≡ o → if_number o f ≡ None
-missing o f e = ap (λ x. if_number x f) (sym e)
+pub missing : (o : Option ℕ) (f : ℕ → Option Request) → None ≡ o → option_and_then f o ≡ None
+missing o f e = ap (option_and_then f) (sym e)
+
+-- an error that `?` passes on has no value
+pub failed : {T E : Type 0} (Q : E → Type 0) (r : Result T E) → IsErrAnd r Q → result_ok r ≡ None
+failed Q (Ok x) h = absurd h
+failed Q (Err e) h = refl

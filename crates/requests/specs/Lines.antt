@@ -1,7 +1,9 @@
 -- The lines that granules reads. Assumes nothing.
-use Rattle.std.specs.Prelude.{ℕ, ◌+◌, ◌-◌, ◌*◌, Bool, cond, ◌&&◌, List, [], ◌∷◌, length, Some, None, codes, Option, ◌==◌, nat_le, nat_lt}
+use Rattle.std.specs.Prelude.{ℕ, ◌+◌, ◌-◌, ◌*◌, Bool, if◌then◌else◌, ◌&&◌, List, [], ◌∷◌, length, Some, None, codes, option_and_then, Option, ◌==◌, nat_le, nat_lt}
 use Prim.Native.String.{String}
+use Rattle.std.specs.List.{slice_split}
 use Rattle.std.specs.Str.{all_ascii_digits, bytes_eq}
+use Rattle.backing.specs.declared.stretches.Stretch.{Stretch}
 use Rattle.requests.specs.declared.Request.{Request}
 use Rattle.requests.specs.declared.Request.TheVariants.{Mask, Limit, Commit, Release, Held, Size, Allowance, Count}
 
@@ -16,22 +18,11 @@ is_number bs = nat_lt 0 (length bs) && (all_ascii_digits bs && nat_le (value_aft
 
 -- the number that the bytes spell
 abbrev pub number_of : List ℕ → Option ℕ
-number_of bs = cond (is_number bs) (Some (value_after 0 bs)) None
-
--- the words, with b in front of the first
-abbrev pub put_first : ℕ → List (List ℕ) → List (List ℕ)
-put_first b [] = (b ∷ []) ∷ []
-put_first b (word ∷ more) = (b ∷ word) ∷ more
+number_of bs = if is_number bs then Some (value_after 0 bs) else None
 
 -- the line cut at each space, the byte 32
 abbrev pub words_of : List ℕ → List (List ℕ)
-words_of [] = [] ∷ []
-words_of (b ∷ bs) = cond (b == 32) ([] ∷ words_of bs) (put_first b (words_of bs))
-
--- what f makes of the number, if there is one
-abbrev pub if_number : Option ℕ → (ℕ → Option Request) → Option Request
-if_number None f = None
-if_number (Some n) f = f n
+words_of line = slice_split (λ b. b == 32) line
 
 -- the word is the text
 abbrev pub is : List ℕ → String → Bool
@@ -40,29 +31,33 @@ is word text = bytes_eq word (codes text)
 -- the words that stand alone
 abbrev pub alone : List ℕ → Option Request
 alone word =
-    cond (is word "size") (Some Size)
-    (cond (is word "allowance") (Some Allowance)
-    (cond (is word "count") (Some Count) None))
+    if is word "size" then Some Size
+    else if is word "allowance" then Some Allowance
+    else if is word "count" then Some Count
+    else None
 
 -- the words that take one number
 abbrev pub with_one : List ℕ → ℕ → Option Request
 with_one word n =
-    cond (is word "mask") (Some (Mask n))
-    (cond (is word "limit") (Some (Limit n))
-    (cond (is word "held") (Some (Held n)) None))
+    if is word "mask" then Some (Mask n)
+    else if is word "limit" then Some (Limit n)
+    else if is word "held" then Some (Held n)
+    else None
 
 -- the words that take two numbers
 abbrev pub with_two : List ℕ → ℕ → ℕ → Option Request
 with_two word first count =
-    cond (is word "commit") (Some (Commit first count))
-    (cond (is word "release") (Some (Release first count)) None)
+    let stretch : Stretch = record { first = first; count = count } in
+    if is word "commit" then Some (Commit stretch)
+    else if is word "release" then Some (Release stretch)
+    else None
 
 -- the request that the words spell
 abbrev pub spelled : List (List ℕ) → Option Request
 spelled [] = None
 spelled (word ∷ []) = alone word
-spelled (word ∷ n ∷ []) = if_number (number_of n) (with_one word)
-spelled (word ∷ m ∷ n ∷ []) = if_number (number_of m) (λ first. if_number (number_of n) (with_two word first))
+spelled (word ∷ n ∷ []) = option_and_then (with_one word) (number_of n)
+spelled (word ∷ m ∷ n ∷ []) = option_and_then (λ first. option_and_then (with_two word first) (number_of n)) (number_of m)
 spelled (word ∷ m ∷ n ∷ extra ∷ more) = None
 
 -- the request that the line spells

@@ -1,13 +1,14 @@
 // Answers requests by a backing.
 ghost use Rattle.std.specs.Prelude.{◌≡◌, Some};
 ghost use Rattle.std.specs.Option.{option_map};
+ghost use Rattle.backing.specs.Replies.{reply, written};
 ghost use Rattle.requests.specs.Answers.{line_of, answer_line, request_after};
 
 use crate::Request;
 use backing::{Backing, Refusal};
 use std::fmt;
 
-#[derive(Clone, Copy, Debug, PartialEq)]
+#[derive(Clone, Copy, Debug, PartialEq, Eq)]
 pub enum Answer {
     Mask(Result<u32, Refusal>),
     Limit(Result<u32, Refusal>),
@@ -24,14 +25,10 @@ impl fmt::Display for Answer {
 
     fn fmt<W: fmt::Write>(&self, f: &mut fmt::Formatter<W>) -> fmt::Result {
         match self {
-            Answer::Mask(Ok(granules)) => write!(f, "mask {granules}"),
-            Answer::Mask(Err(e)) => write!(f, "mask {e}"),
-            Answer::Limit(Ok(allowance)) => write!(f, "limit {allowance}"),
-            Answer::Limit(Err(e)) => write!(f, "limit {e}"),
-            Answer::Commit(Ok(added)) => write!(f, "commit {added}"),
-            Answer::Commit(Err(e)) => write!(f, "commit {e}"),
-            Answer::Release(Ok(removed)) => write!(f, "release {removed}"),
-            Answer::Release(Err(e)) => write!(f, "release {e}"),
+            Answer::Mask(r) => write!(f, "mask {}", Outcome(*r)),
+            Answer::Limit(r) => write!(f, "limit {}", Outcome(*r)),
+            Answer::Commit(r) => write!(f, "commit {}", Outcome(*r)),
+            Answer::Release(r) => write!(f, "release {}", Outcome(*r)),
             Answer::Held(true) => write!(f, "held yes"),
             Answer::Held(false) => write!(f, "held no"),
             Answer::Size(n) => write!(f, "size {n}"),
@@ -41,19 +38,32 @@ impl fmt::Display for Answer {
     }
 }
 
-// What a backing answers to a request, unless it asks for a new backing or a limiter.
+// What a call answered: its number, or why it was refused.
+#[derive(Clone, Copy)]
+struct Outcome(Result<u32, Refusal>);
+
+impl fmt::Display for Outcome {
+    ghost output = { λ o. Some (written (reply o.0)) };
+
+    fn fmt<W: fmt::Write>(&self, f: &mut fmt::Formatter<W>) -> fmt::Result {
+        match self.0 {
+            Ok(n) => write!(f, "{n}"),
+            Err(e) => write!(f, "{e}"),
+        }
+    }
+}
+
+/// What a backing answers to a request, unless it asks for a new backing or a limiter.
 pub fn serve<B: Backing>(backing: &mut B, request: Request) -> Option<Answer>
-    requires { B.Backing.ok backing.old }
     ensures answer { option_map line_of result ≡ answer_line (B.Backing.means backing.old) request }
     ensures after { B.Backing.means backing.new ≡ request_after (B.Backing.means backing.old) request }
     ensures spares { B.Backing.spare backing.new ≡ B.Backing.spare backing.old }
-    ensures valid { B.Backing.ok backing.new }
 {
     match request {
         Request::Mask { granules: _ } => None,
         Request::Limit { limit: _ } => None,
-        Request::Commit { first, count } => Some(Answer::Commit(backing.commit(first, count))),
-        Request::Release { first, count } => Some(Answer::Release(backing.release(first, count))),
+        Request::Commit(stretch) => Some(Answer::Commit(backing.commit(stretch))),
+        Request::Release(stretch) => Some(Answer::Release(backing.release(stretch))),
         Request::Held { granule } => Some(Answer::Held(backing.held(granule))),
         Request::Size => Some(Answer::Size(backing.size())),
         Request::Allowance => Some(Answer::Allowance(backing.allowance())),

@@ -1,6 +1,6 @@
 -- The laws of runs in order.
 use Rattle.std.proofs.Common.{◌≡◌, ℕ, ◌+◌, ◌<◌, ◌≤◌, true, false, ◌||◌, List, [], ◌∷◌, length, get_or, take, drop, sym, refl, ap, ◌∙◌, subst, ⊎_elim, arith}
-use Rattle.std.proofs.lemmas.Bool.{both_ways, cases_lt, cases_order, or_from, or_left, or_right}
+use Rattle.std.proofs.lemmas.Bool.{both_ways, cases_lt, or_from, or_left, or_right}
 use Rattle.std.proofs.lemmas.Bool.Decides.{nat_tests}
 use Rattle.runs.specs.declared.rows.Run.{Run}
 use Rattle.runs.specs.Rows.{Apart, Longest, in_runs, covers, end_of}
@@ -25,9 +25,9 @@ longest rs b p k d h = record {
 
     outside : (g : ℕ) → next 0 (take k rs) ≤ g + 1 → g < end_of (get_or rs k d) + 1 → covers (get_or rs k d) g ≡ false → in_runs rs g ≡ false
     outside g low high none =
-        in_parts rs b p (k + 1) g
-        ∙ or_from _ _ (at_k.in_more g ∙ or_from _ _ (none_above 0 (next 0 (take k rs)) (take k rs) g (front rs b p k) low) none)
-        (none_below (end_of (get_or rs k d) + 1) b (drop (k + 1) rs) g at_k.rest high)
+        let below = none_above 0 (next 0 (take k rs)) (take k rs) g (front rs b p k) low in
+        let above = none_below (end_of (get_or rs k d) + 1) b (drop (k + 1) rs) g at_k.rest high in
+        grind (arith, nat_tests, in_parts rs b p (k + 1) g, at_k.in_more g)
 
 -- the first run tells where a set begins, and where its first row ends
 module _ (a b : ℕ) (run : Run) (runs : List Run) (p : Apart a b (run ∷ runs)) where
@@ -79,13 +79,10 @@ same_lists a b d [] (y ∷ ys) p q same = absurd (some_in a d y ys q (λ g. sym 
 same_lists a b d (x ∷ xs) [] p q same = absurd (some_in a b x xs p (λ g. same g ∙ in_none g))
 same_lists a b d (x ∷ xs) (y ∷ ys) p q same =
     let back : (g : ℕ) → in_runs (y ∷ ys) g ≡ in_runs (x ∷ xs) g = λ g. sym (same g) in
-    let firsts = squeeze x.first y.first (not_earlier a b d x y xs ys p q same) (not_earlier a d b y x ys xs q p back) in
-    let ends = squeeze (end_of x) (end_of y) (not_shorter a b d x y xs ys p q same firsts) (not_shorter a d b y x ys xs q p back (sym firsts)) in
+    let firsts : x.first ≡ y.first = grind (arith, not_earlier a b d x y xs ys p q same, not_earlier a d b y x ys xs q p back) in
+    let ends : end_of x ≡ end_of y = grind (arith, not_shorter a b d x y xs ys p q same firsts, not_shorter a d b y x ys xs q p back (sym firsts)) in
     let rest = same_lists (end_of x + 1) b d xs ys (apart_leads a b x xs p).rest (subst (λ e. Apart (e + 1) d ys) (sym ends) (apart_leads a d y ys q).rest) (same_rest a b d x y xs ys p q same ends) in
     ap (λ r. r ∷ xs) (same_run x y firsts ends) ∙ ap (λ rs. y ∷ rs) rest
-  where
-    squeeze : (m n : ℕ) → (m < n → ⊥) → (n < m → ⊥) → m ≡ n
-    squeeze m n f g = ⊎_elim (λ e. e) (λ o. ⊎_elim (λ l. absurd (f l)) (λ l. absurd (g l)) o) (cases_order m n)
 
 pub same_runs : SameGranulesSameRuns
 same_runs size xs ys p q same = same_lists 0 (size + 1) (size + 1) xs ys p q same

@@ -1,4 +1,5 @@
 pub mod Order
+pub mod Points
 pub mod Looks
 pub mod Splices
 pub mod Turns

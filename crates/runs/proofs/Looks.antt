@@ -1,6 +1,6 @@
--- One pass over the runs, for what a stretch reaches.
-use Rattle.std.proofs.Common.{◌≡◌, ℕ, ◌+◌, ◌-◌, ◌<◌, ◌≤◌, min, max, true, false, ◌&&◌, ◌||◌, ltb, leb, List, [], length, get_or, take, drop, sym, refl, ap, ◌∙◌, subst, ⊎_elim, arith}
-use mathlib.Core.Bool.{or_assoc, or_comm, or-false}
+-- What a stretch reaches among the runs.
+use Rattle.std.proofs.Common.{◌≡◌, ℕ, zero, suc, ◌+◌, ◌-◌, ◌<◌, ◌≤◌, min, max, true, false, ◌&&◌, ◌||◌, ltb, leb, List, length, get_or, take, drop, sym, refl, ap, ◌∙◌, subst, ⊎_elim, arith}
+use mathlib.Core.Bool.{or-false}
 use Rattle.std.proofs.lemmas.List.{drop_more, drop_all}
 use Rattle.std.proofs.lemmas.Bool.{both_ways, cases_lt}
 use Rattle.std.proofs.lemmas.Bool.Decides.{nat_tests}
@@ -11,21 +11,22 @@ use Rattle.runs.specs.declared.rows.Run.{Run}
 use Rattle.runs.specs.declared.rows.Reach.{Reach}
 use Rattle.runs.specs.Rows.{Apart, in_runs, covers, end_of}
 use Rattle.runs.specs.Soundness.{apart_ends, none_above}
-use Rattle.runs.specs.Reach.{Reaches, Widens}
-use Rattle.runs.proofs.Order.{next, Here, here, front, back, in_parts, apart_none, apart_more, apart_high, in_none, none_below, tally_or, tally_shared}
+use Rattle.runs.specs.Reach.{Reaches}
+use Rattle.runs.proofs.Order.{blank, next, Here, here, front, back, in_parts, apart_none, apart_more, apart_high, none_below, tally_or, tally_shared}
 
 -- what is known once the first k runs were seen, none of which begins past the stretch
-pub record Seen (rs : List Run) (first end k : ℕ) (s : Reach) : Type 0 where
-  pub past : s.past ≡ k
-  pub order : s.at ≤ k
-  pub from : s.low ≤ first
-  pub to : end ≤ s.high
-  pub before : Apart 0 s.low (take s.at rs)
-  pub met : s.at < k → first < next 0 (take k rs)
-  pub unmet : s.at ≡ k → s.low ≡ first
-  pub bound : s.high < max (end + 1) (next 0 (take k rs))
-  pub joined : (g : ℕ) → ((leb first g && ltb g end) || in_runs (take k rs) g) ≡ ((leb s.low g && ltb g s.high) || in_runs (take s.at rs) g)
-  pub counted : s.held ≡ tally (in_runs (take k rs)) first (end - first)
+pub record Seen (rs : List Run) (first end k at low high held : ℕ) : Type 0 where
+  pub order : at ≤ k
+  pub from : low ≤ first
+  pub to : end ≤ high
+  pub before : Apart 0 low (take at rs)
+  pub met : at < k → first < next 0 (take k rs)
+  pub bound : high < max (end + 1) (next 0 (take k rs))
+  pub joined : (g : ℕ) → ((leb first g && ltb g end) || in_runs (take k rs) g) ≡ ((leb low g && ltb g high) || in_runs (take at rs) g)
+  pub counted : held ≡ tally (in_runs (take k rs)) first (end - first)
+
+pub seen_same : (rs : List Run) (first end k k' at at' low high held : ℕ) → k ≡ k' → at ≡ at' → Seen rs first end k at low high held → Seen rs first end k' at' low high held
+seen_same rs first end k k' at at' low high held e f s = subst (λ a. Seen rs first end k' a low high held) f (subst (λ i. Seen rs first end i at low high held) e s)
 
 apart_min : (a b d m : ℕ) (xs : List Run) → Apart a b xs → Apart a d xs → m ≡ min b d → Apart a m xs
 apart_min a b d m xs p q e =
@@ -34,23 +35,40 @@ apart_min a b d m xs p q e =
     (λ l. apart_high a d m xs (omega arith) q)
     (cases_lt b d)
 
-module _ (rs : List Run) (first end : ℕ) where
-  pub seen_none : first < end → Seen rs first end 0 (record { at = 0; past = 0; low = first; high = end; held = 0 })
-  seen_none h = record {
-    past = refl;
-    order = omega arith;
-    from = omega arith;
-    to = omega arith;
-    before = apart_none 0 first (omega arith);
-    met = λ l. absurd (omega arith);
-    unmet = λ e. refl;
-    bound = omega arith;
-    joined = λ g. refl;
-    counted = sym (tally_same (in_runs []) (λ g. false) first (end - first) (λ g l r. in_none g) ∙ tally_const false first (end - first));
-  }
+next_none : (rs : List Run) → next 0 (take 0 rs) ≡ 0
+unfolding next
+next_none rs = refl
+
+module _ (rs : List Run) (p : Apart 0 1025 rs) (first end : ℕ) (order : first < end) where
+  -- the runs that end before the stretch are not reached
+  module _ (k : ℕ) (within : k ≤ length rs) (ends : (j : ℕ) (d : Run) → j < k → end_of (get_or rs j d) < first) where
+    ends_at : next 0 (take k rs) ≤ first
+    ends_at = go k refl
+      where
+        go : (n : ℕ) → k ≡ n → next 0 (take k rs) ≤ first
+        go zero e = let none : next 0 (take 0 rs) ≡ 0 = next_none rs in omega (arith, ap (λ i. next 0 (take i rs)) e)
+        go (suc n) e =
+            let last : k ≡ n + 1 = omega arith in
+            let at_n = here rs 1025 p n blank (omega arith) in
+            omega (arith, ap (λ i. next 0 (take i rs)) last, at_n.next_is, ends n blank (omega arith))
+
+    front_before : Apart 0 first (take k rs)
+    front_before = apart_high 0 (next 0 (take k rs)) first (take k rs) ends_at (front rs 1025 p k)
+
+    pub seen_from : Seen rs first end k k first end 0
+    seen_from = record {
+      order = omega arith;
+      from = omega arith;
+      to = omega arith;
+      before = front_before;
+      met = λ l. absurd (omega arith);
+      bound = omega arith;
+      joined = λ g. refl;
+      counted = sym (tally_same (in_runs (take k rs)) (λ g. false) first (end - first) (λ g l r. none_above 0 first (take k rs) g front_before (omega arith)) ∙ tally_const false first (end - first));
+    }
 
   -- one run more
-  module _ (p : Apart 0 1025 rs) (k : ℕ) (d : Run) (within : k < length rs) (s : Reach) (seen : Seen rs first end k s) where
+  module _ (k at low high held : ℕ) (d : Run) (within : k < length rs) (seen : Seen rs first end k at low high held) where
     abbrev run : Run
     run = get_or rs k d
 
@@ -61,8 +79,8 @@ module _ (rs : List Run) (first end : ℕ) where
     run_fits = at_k.high
 
     -- what the run adds
-    pub count_more : first < end → tally (in_runs (take (k + 1) rs)) first (end - first) ≡ tally (in_runs (take k rs)) first (end - first) + (min (end_of run) end - max run.first first)
-    count_more order =
+    count_more : tally (in_runs (take (k + 1) rs)) first (end - first) ≡ tally (in_runs (take k rs)) first (end - first) + (min (end_of run) end - max run.first first)
+    count_more =
         let e : first + (end - first) ≡ end = omega arith in
         tally_same (in_runs (take (k + 1) rs)) (λ g. in_runs (take k rs) g || covers run g) first (end - first) (λ g l r. at_k.in_more g)
         ∙ tally_or (in_runs (take k rs)) (covers run) first (end - first) apart
@@ -75,107 +93,68 @@ module _ (rs : List Run) (first end : ℕ) where
             (λ at-or-past. absurd (both_ways (in_runs (take k rs) g) (none_above 0 (next 0 (take k rs)) (take k rs) g (front rs 1025 p k) (omega (arith, at_k.low))) t))
             (cases_lt g run.first)
 
-    pub few_more : first < end → s.held + (min (end_of run) end - max run.first first) ≤ end - first
-    few_more order = omega (arith, seen.counted, count_more order, tally_le (in_runs (take (k + 1) rs)) first (end - first))
-
-    -- a run that ends before the stretch: none was met so far
-    none_met : end_of run < first → s.at ≡ k
-    none_met ends = ⊎_elim (λ l. absurd (omega (arith, seen.met l, at_k.low))) (λ l. omega (arith, seen.order)) (cases_lt s.at k)
-
-    pub seen_before : first < end → end_of run < first
-        → Seen rs first end (k + 1) (record { at = s.at + 1; past = s.past + 1; low = s.low; high = s.high; held = s.held })
-    seen_before order ends =
-        let none = none_met ends in
-        let low = seen.unmet none in
-        let next_up = at_k.next_is in
-        let more : take (s.at + 1) rs ≡ take (k + 1) rs = ap (λ i. take (i + 1) rs) none in
-        record {
-          past = omega (arith, seen.past);
-          order = omega arith;
-          from = seen.from;
-          to = seen.to;
-          before = subst (Apart 0 s.low) (sym more) (apart_high 0 (next 0 (take (k + 1) rs)) s.low (take (k + 1) rs) (omega arith) (front rs 1025 p (k + 1)));
-          met = λ l. absurd (omega arith);
-          unmet = λ e. low;
-          bound = omega (arith, seen.bound, at_k.low);
-          joined = λ g.
-              ap (λ b. (leb first g && ltb g end) || b) (at_k.in_more g)
-              ∙ sym (or_assoc (leb first g && ltb g end) (in_runs (take k rs) g) (covers run g))
-              ∙ ap (λ b. b || covers run g) (seen.joined g ∙ ap (λ i. (leb s.low g && ltb g s.high) || in_runs (take i rs) g) none)
-              ∙ or_assoc (leb s.low g && ltb g s.high) (in_runs (take k rs) g) (covers run g)
-              ∙ ap (λ b. (leb s.low g && ltb g s.high) || b) (sym (at_k.in_more g) ∙ ap (λ xs. in_runs xs g) (sym more));
-          counted = omega (arith, seen.counted, count_more order);
-        }
+    pub few_more : held + (min (end_of run) end - max run.first first) ≤ end - first
+    few_more = omega (arith, seen.counted, count_more, tally_le (in_runs (take (k + 1) rs)) first (end - first))
 
     -- those before the stretch end before this run too
-    before_run : Apart 0 run.first (take s.at rs)
+    before_run : Apart 0 run.first (take at rs)
     before_run =
         ⊎_elim
-        (λ l. apart_high 0 s.low run.first (take s.at rs) (omega (arith, seen.met l, seen.from, at_k.low)) seen.before)
+        (λ l. apart_high 0 low run.first (take at rs) (omega (arith, seen.met l, seen.from, at_k.low)) seen.before)
         (λ l.
-        let same : k ≡ s.at = omega (arith, seen.order) in
-        apart_high 0 (next 0 (take s.at rs)) run.first (take s.at rs) (subst (λ i. next 0 (take i rs) ≤ run.first) same at_k.low) (front rs 1025 p s.at))
-        (cases_lt s.at k)
+        let same : k ≡ at = omega (arith, seen.order) in
+        apart_high 0 (next 0 (take at rs)) run.first (take at rs) (subst (λ i. next 0 (take i rs) ≤ run.first) same at_k.low) (front rs 1025 p at))
+        (cases_lt at k)
 
-    pub seen_met : first < end → first ≤ end_of run → run.first ≤ end → (w : Reach) → Widens s run first end w
-        → Seen rs first end (k + 1) (record { at = w.at; past = w.past + 1; low = w.low; high = w.high; held = w.held })
-    seen_met order meets begins w wide =
+    pub seen_met : first ≤ end_of run → run.first ≤ end → (l h n : ℕ) → l ≡ min low run.first → h ≡ max high (end_of run)
+        → n ≡ held + (min (end_of run) end - max run.first first) → Seen rs first end (k + 1) at l h n
+    seen_met meets begins l h n lows highs counts =
         let next_up = at_k.next_is in
         record {
-          past = omega (arith, seen.past, wide.same_past);
-          order = omega (arith, seen.order, wide.same_at);
-          from = omega (arith, seen.from, wide.low);
-          to = omega (arith, seen.to, wide.high);
-          before = subst (λ i. Apart 0 w.low (take i rs)) (sym wide.same_at) (apart_min 0 s.low run.first w.low (take s.at rs) seen.before before_run wide.low);
+          order = omega (arith, seen.order);
+          from = omega (arith, seen.from);
+          to = omega (arith, seen.to);
+          before = apart_min 0 low run.first l (take at rs) seen.before before_run lows;
           met = λ l. omega arith;
-          unmet = λ e. absurd (omega (arith, seen.order, wide.same_at));
-          bound = omega (arith, seen.bound, at_k.low, wide.high);
+          bound = omega (arith, seen.bound, at_k.low);
           joined = λ g.
-              let wider : ((leb s.low g && ltb g s.high) || covers run g) ≡ (leb w.low g && ltb g w.high) = grind (arith, nat_tests, wide.low, wide.high, seen.from, seen.to, meets, begins) in
-              ap (λ b. (leb first g && ltb g end) || b) (at_k.in_more g)
-              ∙ sym (or_assoc (leb first g && ltb g end) (in_runs (take k rs) g) (covers run g))
-              ∙ ap (λ b. b || covers run g) (seen.joined g)
-              ∙ or_assoc (leb s.low g && ltb g s.high) (in_runs (take s.at rs) g) (covers run g)
-              ∙ ap (λ b. (leb s.low g && ltb g s.high) || b) (or_comm (in_runs (take s.at rs) g) (covers run g))
-              ∙ sym (or_assoc (leb s.low g && ltb g s.high) (covers run g) (in_runs (take s.at rs) g))
-              ∙ ap (λ b. b || in_runs (take s.at rs) g) wider
-              ∙ ap (λ i. (leb w.low g && ltb g w.high) || in_runs (take i rs) g) (sym wide.same_at);
-          counted = omega (arith, wide.held, seen.counted, count_more order);
+              let wider : ((leb low g && ltb g high) || covers run g) ≡ (leb l g && ltb g h) = grind (arith, nat_tests, seen.from, seen.to) in
+              let more = at_k.in_more g in
+              let joined = seen.joined g in
+              grind (arith, nat_tests);
+          counted = omega (arith, seen.counted, count_more);
         }
 
-  -- after the last run, or at one that begins past the stretch
-  module _ (p : Apart 0 1025 rs) (order : first < end) (bounded : end ≤ 1024) (k : ℕ) (s : Reach) (seen : Seen rs first end k s) where
-    all_seen : ((b : ℕ) → Apart 0 b rs → end < b → Apart (s.high + 1) b (drop k rs)) → k ≤ length rs → Reaches rs first end s
-    all_seen past within = record {
-      order = omega (arith, seen.order, seen.past);
-      within = omega (arith, seen.past);
+  -- after the last run that the stretch reaches
+  module _ (bounded : end ≤ 1024) (s : Reach) (seen : Seen rs first end s.past s.at s.low s.high s.held) (within : s.past ≤ length rs)
+      (past : (d : Run) → s.past < length rs → end < (get_or rs s.past d).first) where
+    rest_apart : (b : ℕ) → Apart 0 b rs → end < b → Apart (s.high + 1) b (drop s.past rs)
+    rest_apart b q l =
+        ⊎_elim
+        (λ h.
+        let at_k = here rs b q s.past blank h in
+        subst (Apart (s.high + 1) b) (sym (drop_more rs s.past blank h))
+        (apart_more (s.high + 1) b (get_or rs s.past blank) (drop (s.past + 1) rs) (omega (arith, seen.bound, at_k.low, past blank h)) at_k.some at_k.rest))
+        (λ h.
+        let none = drop_all s.past rs h in
+        let up = apart_ends (next 0 (take s.past rs)) b (drop s.past rs) (back rs b q s.past) in
+        subst (Apart (s.high + 1) b) (sym none) (apart_none (s.high + 1) b (omega (arith, seen.bound))))
+        (cases_lt s.past (length rs))
+
+    up_to : (g : ℕ) → first ≤ g → g < first + (end - first) → in_runs rs g ≡ in_runs (take s.past rs) g
+    up_to g l r =
+        in_parts rs 1025 p s.past g
+        ∙ ap (λ b. in_runs (take s.past rs) g || b) (none_below (s.high + 1) 1025 (drop s.past rs) g (rest_apart 1025 p (omega arith)) (omega (arith, seen.to)))
+        ∙ or-false (in_runs (take s.past rs) g)
+
+    pub all_seen : Reaches rs first end s
+    all_seen = record {
+      order = seen.order;
+      within = within;
       from = seen.from;
       to = seen.to;
       before = seen.before;
-      after = λ b q l. subst (λ i. Apart (s.high + 1) b (drop i rs)) (sym seen.past) (past b q l);
-      joined = λ g. ap (λ i. (leb first g && ltb g end) || in_runs (take i rs) g) seen.past ∙ seen.joined g;
-      counted = seen.counted ∙ sym (tally_same (in_runs rs) (in_runs (take k rs)) first (end - first) up_to);
+      after = rest_apart;
+      joined = seen.joined;
+      counted = seen.counted ∙ sym (tally_same (in_runs rs) (in_runs (take s.past rs)) first (end - first) up_to);
     }
-      where
-        up_to : (g : ℕ) → first ≤ g → g < first + (end - first) → in_runs rs g ≡ in_runs (take k rs) g
-        up_to g l r =
-            in_parts rs 1025 p k g
-            ∙ ap (λ b. in_runs (take k rs) g || b) (none_below (s.high + 1) 1025 (drop k rs) g (past 1025 p (omega arith)) (omega (arith, seen.to)))
-            ∙ or-false (in_runs (take k rs) g)
-
-    pub seen_all : length rs ≤ k → k ≤ length rs → Reaches rs first end s
-    seen_all last within =
-        all_seen
-        (λ b q l.
-        let none = drop_all k rs last in
-        let up = apart_ends (next 0 (take k rs)) b (drop k rs) (back rs b q k) in
-        subst (Apart (s.high + 1) b) (sym none) (apart_none (s.high + 1) b (omega (arith, seen.bound))))
-        within
-
-    pub seen_past : (d : Run) → k < length rs → end < (get_or rs k d).first → Reaches rs first end s
-    seen_past d within begins =
-        all_seen
-        (λ b q l.
-        let at_k = here rs b q k d within in
-        subst (Apart (s.high + 1) b) (sym (drop_more rs k d within)) (apart_more (s.high + 1) b (get_or rs k d) (drop (k + 1) rs) (omega (arith, seen.bound, at_k.low)) at_k.some at_k.rest))
-        (omega arith)

@@ -1,7 +1,7 @@
 -- Runs in order: joined, cut, read and counted.
-use Rattle.std.proofs.Common.{◌≡◌, ℕ, zero, suc, ◌+◌, ◌-◌, ◌<◌, ◌≤◌, min, max, Bool, true, false, ◌||◌, leb, List, [], ◌∷◌, ◌++◌, length, get_or, take, drop, sym, refl, ap, ◌∙◌, subst, arith}
+use Rattle.std.proofs.Common.{◌≡◌, ℕ, zero, suc, ◌+◌, ◌-◌, ◌<◌, ◌≤◌, min, max, Bool, true, false, ◌||◌, List, [], ◌∷◌, ◌++◌, length, get_or, take, drop, sym, refl, ap, ◌∙◌, subst, arith}
 use mathlib.Core.Bool.{or_assoc, or-false}
-use Rattle.std.proofs.lemmas.List.{take_more, drop_more, take-append-drop, take_all}
+use Rattle.std.proofs.lemmas.List.{take_more, drop_more, take-append-drop}
 use Rattle.std.proofs.lemmas.Bool.{and_from, both_ways, le-leb, or_from}
 use Rattle.std.proofs.lemmas.Bool.Decides.{nat_tests}
 use Rattle.backing.specs.Meaning.{tally, one, among}
@@ -15,7 +15,7 @@ abbrev pub blank : Run
 blank = record { first = 0; count = 0 }
 
 -- where a run after these may begin
-pub next : ℕ → List Run → ℕ
+unfoldable pub next : ℕ → List Run → ℕ
 next low [] = low
 next low (run ∷ runs) = next (end_of run + 1) runs
 
@@ -30,7 +30,7 @@ apart_more a b run runs l n p = and_from _ _ (and_from _ _ (le-leb a run.first l
 pub apart_one : (a b : ℕ) (run : Run) → a ≤ run.first → 1 ≤ run.count → end_of run < b → Apart a b (run ∷ [])
 apart_one a b run l n h = apart_more a b run [] l n (apart_none (end_of run + 1) b (omega arith))
 
-pub apart_low : (a m b : ℕ) (xs : List Run) → a ≤ m → Apart m b xs → Apart a b xs
+apart_low : (a m b : ℕ) (xs : List Run) → a ≤ m → Apart m b xs → Apart a b xs
 apart_low a m b [] h p = apart_none a b (omega (arith, apart_empty m b p))
 apart_low a m b (x ∷ xs) h p = let q = apart_leads m b x xs p in apart_more a b x xs (omega arith) q.some q.rest
 
@@ -131,23 +131,3 @@ tally_shared a m first zero = omega (arith, tally_none (among a m) first)
 tally_shared a m first (suc n) =
     let more : min (a + m) (first + suc n) - max a first ≡ (min (a + m) (first + n) - max a first) + one (among a m (first + n)) = grind (arith, nat_tests) in
     omega (arith, tally_suc (among a m) first n, tally_shared a m first n)
-
--- a look for one granule, from the lowest run
-module _ (rs : List Run) (b : ℕ) (p : Apart 0 b rs) (k : ℕ) (d : Run) (within : k < length rs) (g : ℕ) (none : in_runs (take k rs) g ≡ false) where
-  abbrev at_k : Here rs b k (get_or rs k d)
-  at_k = here rs b p k d within
-
-  pub held_here : g < end_of (get_or rs k d) → leb (get_or rs k d).first g ≡ in_runs rs g
-  held_here l =
-      let run = get_or rs k d in
-      let covered : leb (get_or rs k d).first g ≡ covers (get_or rs k d) g = grind (arith, nat_tests) in
-      covered ∙ sym (in_parts rs b p (k + 1) g
-      ∙ ap (λ x. in_runs (take (k + 1) rs) g || x) (none_below (end_of run + 1) b (drop (k + 1) rs) g at_k.rest (omega arith))
-      ∙ or-false (in_runs (take (k + 1) rs) g)
-      ∙ at_k.in_more g ∙ ap (λ x. x || covers run g) none)
-
-  pub not_here : end_of (get_or rs k d) ≤ g → in_runs (take (k + 1) rs) g ≡ false
-  not_here l = at_k.in_more g ∙ or_from (in_runs (take k rs) g) (covers (get_or rs k d) g) none (grind (arith, nat_tests))
-
-pub held_none : (rs : List Run) (k g : ℕ) → length rs ≤ k → in_runs (take k rs) g ≡ false → false ≡ in_runs rs g
-held_none rs k g all none = sym (ap (λ xs. in_runs xs g) (sym (take_all k rs all)) ∙ none)

@@ -1,14 +1,11 @@
 -- The runs after a stretch was committed or released.
-use Rattle.std.proofs.Common.{◌≡◌, ℕ, ◌+◌, ◌-◌, ◌<◌, ◌≤◌, Bool, true, false, cond, ◌&&◌, ◌||◌, ltb, leb, List, [], ◌∷◌, ◌++◌, length, take, drop, sym, refl, ap, ◌∙◌, ⊎_elim, arith}
-use mathlib.Core.Bool.{or_assoc, or_comm}
-use Rattle.std.proofs.lemmas.Bool.{and_parts, cases_Bool, cond-true, cond-false, cond_both, leb-true, ltb-true, ltb-false, or_from}
+use Rattle.std.proofs.Common.{◌≡◌, ℕ, ◌+◌, ◌<◌, ◌≤◌, Bool, true, false, cond, ◌&&◌, ◌||◌, ltb, leb, List, [], ◌∷◌, ◌++◌, length, take, drop, ap, ◌∙◌, arith}
+use Rattle.std.proofs.lemmas.Bool.{cond_both, ltb-true, ltb-false}
 use Rattle.std.proofs.lemmas.Bool.Decides.{nat_tests}
-use Rattle.backing.specs.Meaning.{among, tally}
 use Rattle.runs.specs.declared.rows.Run.{Run}
 use Rattle.runs.specs.declared.rows.Reach.{Reach}
-use Rattle.runs.specs.Rows.{Apart, in_runs, covers, row, rows}
+use Rattle.runs.specs.Rows.{Apart, in_runs, covers, row, rows, records_for}
 use Rattle.runs.specs.Reach.{Reaches, merged, parted}
-use Rattle.runs.specs.Lists.{records_for}
 use Rattle.runs.specs.Soundness.{apart_ends, none_above}
 use Rattle.runs.proofs.Order.{apart_none, apart_one, apart_join, in_none, in_one, in_append, in_parts, none_below}
 
@@ -30,18 +27,11 @@ in_rows low high g =
     (λ t. let none = ltb-false low high t in in_none g ∙ (grind (arith, nat_tests)))
 
 -- runs that mean others with a stretch turned on or off
-pub record Turned (size : ℕ) (was is : List Run) (first n : ℕ) (on : Bool) : Type 0 where
+pub record Turned (size : ℕ) (was is : List Run) (first end : ℕ) (on : Bool) : Type 0 where
   pub apart : Apart 0 (size + 1) is
-  pub held : (g : ℕ) → in_runs is g ≡ cond (among first n g) on (in_runs was g)
+  pub held : (g : ℕ) → in_runs is g ≡ cond (leb first g && ltb g end) on (in_runs was g)
 
-joins : (a b x y z : Bool) → (a || x) ≡ (b || y) → (y || (b || z)) ≡ cond a true (x || z)
-joins a b x y z e = sym (or_assoc y b z) ∙ ap (λ t. t || z) (or_comm y b ∙ sym e) ∙ or_assoc a x z ∙ or_cond a
-  where
-    or_cond : (a : Bool) → (a || (x || z)) ≡ cond a true (x || z)
-    or_cond true = refl
-    or_cond false = refl
-
-module _ (size : ℕ) (rs : List Run) (p : Apart 0 (size + 1) rs) (first n : ℕ) (some : 1 ≤ n) (fits : first + n ≤ size) (s : Reach) (q : Reaches rs first (first + n) s) where
+module _ (size : ℕ) (rs : List Run) (p : Apart 0 (size + 1) rs) (first end : ℕ) (some : first < end) (fits : end ≤ size) (s : Reach) (q : Reaches rs first end s) where
   abbrev before : List Run
   before = take s.at rs
 
@@ -51,10 +41,7 @@ module _ (size : ℕ) (rs : List Run) (p : Apart 0 (size + 1) rs) (first n : ℕ
   past_apart : Apart (s.high + 1) (size + 1) past
   past_apart = q.after (size + 1) p (omega arith)
 
-  pub reach_held : s.held ≡ tally (in_runs rs) first n
-  reach_held = let e : first + n - first ≡ n = omega arith in q.counted ∙ ap (tally (in_runs rs) first) e
-
-  pub reach_some : s.low < s.high
+  reach_some : s.low < s.high
   reach_some = omega (arith, q.from, q.to)
 
   merged_apart : Apart 0 (size + 1) (merged rs s)
@@ -64,13 +51,13 @@ module _ (size : ℕ) (rs : List Run) (p : Apart 0 (size + 1) rs) (first n : ℕ
       (apart_one s.low (s.high + 1) (row s.low s.high) (omega arith) (omega (arith, reach_some)) (omega (arith, reach_some)))
       past_apart)
 
-  parted_apart : Apart 0 (size + 1) (parted rs s first (first + n))
+  parted_apart : Apart 0 (size + 1) (parted rs s first end)
   parted_apart =
-      apart_join 0 s.low (size + 1) before ((rows s.low first ++ rows (first + n) s.high) ++ past) q.before
-      (apart_join s.low (s.high + 1) (size + 1) (rows s.low first ++ rows (first + n) s.high) past
-      (apart_join s.low (first + 1) (s.high + 1) (rows s.low first) (rows (first + n) s.high)
+      apart_join 0 s.low (size + 1) before ((rows s.low first ++ rows end s.high) ++ past) q.before
+      (apart_join s.low (s.high + 1) (size + 1) (rows s.low first ++ rows end s.high) past
+      (apart_join s.low (first + 1) (s.high + 1) (rows s.low first) (rows end s.high)
       (rows_apart s.low s.low first (first + 1) (omega arith) (omega (arith, q.from)) (omega arith))
-      (rows_apart (first + 1) (first + n) s.high (s.high + 1) (omega arith) (omega (arith, q.to)) (omega arith)))
+      (rows_apart (first + 1) end s.high (s.high + 1) (omega arith) (omega (arith, q.to)) (omega arith)))
       past_apart)
 
   -- each granule, by where it lies
@@ -81,50 +68,43 @@ module _ (size : ℕ) (rs : List Run) (p : Apart 0 (size + 1) rs) (first n : ℕ
     whole : in_runs rs g ≡ (in_runs (take s.past rs) g || in_runs past g)
     whole = in_parts rs (size + 1) p s.past g
 
-    merged_held : in_runs (merged rs s) g ≡ cond (among first n g) true (in_runs rs g)
+    merged_held : in_runs (merged rs s) g ≡ cond (leb first g && ltb g end) true (in_runs rs g)
     merged_held =
         let some-row = reach_some in
         let covered : covers (row s.low s.high) g ≡ reached = grind (arith, nat_tests) in
+        let joined = q.joined g in
+        let all = whole in
         in_append before (row s.low s.high ∷ past) g
         ∙ ap (λ b. in_runs before g || b) (in_append (row s.low s.high ∷ []) past g ∙ ap (λ b. b || in_runs past g) (in_one (row s.low s.high) g ∙ covered))
-        ∙ joins (among first n g) reached (in_runs (take s.past rs) g) (in_runs before g) (in_runs past g) (q.joined g)
-        ∙ ap (cond (among first n g) true) (sym whole)
+        ∙ (grind (arith, nat_tests))
 
     abbrev sides : Bool
-    sides = (leb s.low g && ltb g first) || (leb (first + n) g && ltb g s.high)
+    sides = (leb s.low g && ltb g first) || (leb end g && ltb g s.high)
 
-    parted_is : in_runs (parted rs s first (first + n)) g ≡ (in_runs before g || (sides || in_runs past g))
+    parted_is : in_runs (parted rs s first end) g ≡ (in_runs before g || (sides || in_runs past g))
     parted_is =
-        in_append before ((rows s.low first ++ rows (first + n) s.high) ++ past) g
-        ∙ ap (λ b. in_runs before g || b) (in_append (rows s.low first ++ rows (first + n) s.high) past g
-        ∙ ap (λ b. b || in_runs past g) (in_append (rows s.low first) (rows (first + n) s.high) g
-        ∙ ap (λ b. b || in_runs (rows (first + n) s.high) g) (in_rows s.low first g) ∙ ap (λ b. (leb s.low g && ltb g first) || b) (in_rows (first + n) s.high g)))
+        in_append before ((rows s.low first ++ rows end s.high) ++ past) g
+        ∙ ap (λ b. in_runs before g || b) (in_append (rows s.low first ++ rows end s.high) past g
+        ∙ ap (λ b. b || in_runs past g) (in_append (rows s.low first) (rows end s.high) g
+        ∙ ap (λ b. b || in_runs (rows end s.high) g) (in_rows s.low first g) ∙ ap (λ b. (leb s.low g && ltb g first) || b) (in_rows end s.high g)))
 
-    none_left : among first n g ≡ true → (in_runs before g || (sides || in_runs past g)) ≡ false
+    none_left : (leb first g && ltb g end) ≡ true → (in_runs before g || (sides || in_runs past g)) ≡ false
     none_left t =
-        let l = and_parts (leb first g) (ltb g (first + n)) t in
-        let from = leb-true first g l.0 in
-        let to = ltb-true g (first + n) l.1 in
-        let sides-none : sides ≡ false = grind (arith, nat_tests) in
-        or_from _ _ (none_above 0 s.low before g q.before (omega (arith, q.from)))
-        (or_from _ _ sides-none (none_below (s.high + 1) (size + 1) past g past_apart (omega (arith, q.to))))
+        let left = none_above 0 s.low before g q.before in
+        let right = none_below (s.high + 1) (size + 1) past g past_apart in
+        grind (arith, nat_tests, left, right, q.from, q.to)
 
-    as_before : among first n g ≡ false → (in_runs before g || (sides || in_runs past g)) ≡ in_runs rs g
+    as_before : (leb first g && ltb g end) ≡ false → (in_runs before g || (sides || in_runs past g)) ≡ in_runs rs g
     as_before t =
-        let from = q.from in
-        let to = q.to in
-        let all : sides ≡ reached = grind (arith, nat_tests) in
-        ap (λ b. in_runs before g || (b || in_runs past g)) all
-        ∙ joins (among first n g) reached (in_runs (take s.past rs) g) (in_runs before g) (in_runs past g) (q.joined g)
-        ∙ cond-false (among first n g) true _ t ∙ sym whole
+        let joined = q.joined g in
+        let all = whole in
+        grind (arith, nat_tests, q.from, q.to)
 
-    parted_held : in_runs (parted rs s first (first + n)) g ≡ cond (among first n g) false (in_runs rs g)
-    parted_held =
-        parted_is
-        ∙ ⊎_elim (λ t. none_left t ∙ sym (cond-true (among first n g) false (in_runs rs g) t)) (λ t. as_before t ∙ sym (cond-false (among first n g) false (in_runs rs g) t)) (cases_Bool (among first n g))
+    parted_held : in_runs (parted rs s first end) g ≡ cond (leb first g && ltb g end) false (in_runs rs g)
+    parted_held = let is = parted_is in grind (arith, none_left, as_before)
 
-  pub merging : Turned size rs (merged rs s) first n true
+  pub merging : Turned size rs (merged rs s) first end true
   merging = record { apart = merged_apart; held = merged_held }
 
-  pub parting : Turned size rs (parted rs s first (first + n)) first n false
+  pub parting : Turned size rs (parted rs s first end) first end false
   parting = record { apart = parted_apart; held = parted_held }

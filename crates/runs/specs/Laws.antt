@@ -1,8 +1,7 @@
 -- What follows of runs that are in order and apart.
 use Rattle.std.specs.Prelude.{◌≡◌, ℕ, ◌+◌, ◌≤◌, List, length}
 use Rattle.runs.specs.declared.rows.Run.{Run}
-use Rattle.runs.specs.Rows.{Apart, in_runs}
-use Rattle.runs.specs.Lists.{records_for}
+use Rattle.runs.specs.Rows.{Apart, in_runs, records_for}
 
 -- there are never more runs than half of the granules, rounded up
 abbrev pub HalfAsManyRecordsSuffice : Type 0

@@ -1,4 +1,5 @@
 pub mod Rows
+pub mod Lent
 pub mod Reach
 pub mod Lists
 pub mod Soundness

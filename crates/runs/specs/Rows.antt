@@ -1,6 +1,6 @@
 -- Runs: rows of committed granules, in order and apart.
-use Rattle.std.specs.Prelude.{◌≡◌, ℕ, ◌+◌, ◌-◌, ◌≤◌, Bool, true, false, cond, ◌&&◌, ◌||◌, List, [], ◌∷◌, ◌++◌, take, drop, nat_le, nat_lt}
-use Rattle.backing.specs.Meaning.{among}
+use Rattle.std.specs.Prelude.{◌≡◌, ℕ, ◌+◌, ◌-◌, ◌/◌, ◌≤◌, Bool, true, false, if◌then◌else◌, ◌&&◌, ◌||◌, List, [], ◌∷◌, ◌++◌, length, take, drop, nat_le, nat_lt}
+use Rattle.backing.specs.Meaning.{among, tally, most_granules}
 use Rattle.runs.specs.declared.rows.Run.{Run}
 
 -- the granule right after a run
@@ -38,8 +38,21 @@ row low high = record { first = low; count = high - low }
 
 -- the same as a list, with none where there is no granule
 abbrev pub rows : ℕ → ℕ → List Run
-rows low high = cond (nat_lt low high) (row low high ∷ []) []
+rows low high = if nat_lt low high then row low high ∷ [] else []
 
--- the runs with others in the place of those from at up to past
-abbrev pub spliced : List Run → ℕ → ℕ → List Run → List Run
-spliced runs at past new = take at runs ++ (new ++ drop past runs)
+-- a row with other items in the place of those from at up to past
+abbrev pub spliced : {T : Type 0} → List T → ℕ → ℕ → List T → List T
+spliced items at past new = take at items ++ (new ++ drop past items)
+
+-- how many records suffice for so many granules
+abbrev pub records_for : ℕ → ℕ
+records_for size = (size + 1) / 2
+
+-- a list's size, the memory for it, its runs in order and apart, none past the last granule, and the count that it keeps
+pub record RunListOk (records : List Run) (len size count : ℕ) : Type 0 where
+  pub some : 1 ≤ size
+  pub bounded : size ≤ most_granules
+  pub covered : records_for size ≤ length records
+  pub used : len ≤ length records
+  pub apart : Apart 0 (size + 1) (take len records)
+  pub counted : count ≡ tally (in_runs (take len records)) 0 size

@@ -7,7 +7,7 @@ use Rattle.backing.specs.Soundness.{tally_le}
 use Rattle.runs.specs.declared.rows.Run.{Run}
 use Rattle.runs.specs.declared.lists.RunList.{RunList}
 use Rattle.runs.specs.Rows.{Apart, in_order, in_runs, covers, end_of}
-use Rattle.runs.specs.Lists.{RunListOk, list_means, runs_of}
+use Rattle.runs.specs.Lists.{list_means, runs_of}
 
 -- what being apart says of no run, and of a first run and the rest
 pub apart_empty : (a b : ℕ) → Apart a b [] → a ≤ b
@@ -40,11 +40,11 @@ none_above a b (run ∷ runs) g p h =
     (and_right (nat_le run.first g) (nat_lt g (end_of run)) (le-ltb g (end_of run) (omega (arith, apart_ends (end_of run + 1) b runs q.rest))))
     (none_above (end_of run + 1) b runs g q.rest h)
 
-pub list_sound : (l : RunList) → RunListOk l → Sound (list_means l)
-list_sound l ok = record {
-  some = ok.some;
-  bounded = ok.bounded;
+pub list_sound : (l : RunList) → Sound (list_means l)
+list_sound l = record {
+  some = l.ok.some;
+  bounded = l.ok.bounded;
   allowed = omega arith;
   within = tally_le (in_runs (runs_of l)) 0 l.size;
-  none_past = λ g past. none_above 0 (l.size + 1) (runs_of l) g ok.apart (omega arith);
+  none_past = λ g past. none_above 0 (l.size + 1) (runs_of l) g l.ok.apart (omega arith);
 }

@@ -1,14 +1,12 @@
 // Theorems on runs, each on the contract of a function that is named after what it says.
 ghost use Rattle.runs.specs.Laws.{HalfAsManyRecordsSuffice, SameGranulesSameRuns};
 
-pub fn half_as_many_records_suffice() -> u8
+#[tactic(auto, using(crate::proofs::Turns::few_runs))]
+pub fn half_as_many_records_suffice()
     ensures { HalfAsManyRecordsSuffice }
-{
-    0
-}
+{}
 
-pub fn same_granules_same_runs() -> u8
+#[tactic(auto, using(crate::proofs::Lawful::same_runs))]
+pub fn same_granules_same_runs()
     ensures { SameGranulesSameRuns }
-{
-    0
-}
+{}

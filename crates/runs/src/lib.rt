@@ -2,6 +2,7 @@
 #![tactic(auto)]
 
 pub mod laws;
+mod lent;
 mod lists;
 mod ordered;
 mod rows;

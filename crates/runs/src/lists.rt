@@ -1,116 +1,91 @@
 // A backing in records that the caller lends: a sorted list of runs.
-ghost use Rattle.std.specs.Prelude.{◌≡◌, ℕ, ◌+◌, ◌<◌, List, length, IfOk, if◌then◌else◌, MatchResult, slice_index_or};
-ghost use Rattle.backing.specs.Makings.{making};
-ghost use Rattle.backing.specs.Meaning.{commit_after, release_after};
-ghost use Rattle.backing.specs.Replies.{reply, commit_reply, release_reply};
+ghost use Rattle.std.specs.Prelude.{List};
 ghost use Rattle.runs.specs.declared.rows.Run.{Run};
-ghost use Rattle.runs.specs.Rows.{Apart, Longest};
-ghost use Rattle.runs.specs.Lists.{RunListOk, Looked, runs_of, list_means, list_making, spare_records};
-ghost use Rattle.runs.specs.Soundness.{list_sound};
+ghost use Rattle.runs.specs.Rows.{RunListOk};
 
+use crate::lent::LentVec;
 use crate::ordered::Ordered;
-use crate::rows;
 use crate::rows::{Reach, Run};
-use backing::{Backing, Refusal, Refused, end_of};
+use backing::{Backing, Refusal, Refused, Span, Stretch, is_enough};
 
-#[derive(Drop)]
+#[derive(Debug, Drop)]
 pub struct RunList<'a> {
-    records: &'a mut [Run],
-    // How many records hold a run.
-    len: usize,
+    rows: LentVec<'a, Run>,
     size: u32,
     count: u32,
+    ghost ok: { RunListOk rows.places.now rows.len size count },
 }
 
 impl<'a> RunList<'a> {
-    // A run list of `size` granules, none committed, in the first of the records.
+    ghost use Rattle.std.specs.Prelude.{◌≡◌, ℕ, ◌+◌, ◌<◌, ◌≤◌, length, MatchResult, slice_index_or};
+    ghost use Rattle.backing.specs.Makings.{making};
+    ghost use Rattle.runs.specs.Rows.{Apart, Longest};
+    ghost use Rattle.runs.specs.Reach.{Reaches};
+    ghost use Rattle.runs.specs.Lists.{runs_of, list_means, list_making};
+
+    /// A run list of `size` granules, none committed, in the first of the records.
     pub fn new(records: &'a mut [Run], size: u32) -> Result<RunList<'a>, Refused<&'a mut [Run]>>
         ensures answer { making list_means result ≡ list_making size (length records.old) }
-        ensures spares { MatchResult result (λ l. l.records.now ≡ records.old) (λ e. e.back.now ≡ records.old) }
-        ensures valid { IfOk result RunListOk }
+        ensures spares { MatchResult result (λ l. l.rows.places.now ≡ records.old) (λ e. e.back.now ≡ records.old) }
     {
-        let needed = (size as usize + 1) / 2;
-        if size == 0 || size > 1024 || records.len() < needed {
+        let needed = size.div_ceil(2) as usize;
+        if !is_enough(size, needed, records.len()) {
             return Err(Refused {
                 why: Refusal::BadMaking,
                 back: records,
             });
         }
         Ok(RunList {
-            records,
-            len: 0,
+            rows: LentVec::new(records),
             size,
             count: 0,
         })
     }
 
-    // The records, as the list leaves them.
+    /// The records, as the list leaves them.
     pub fn into_records(self) -> &'a mut [Run]
-        ensures { result.now ≡ self.entry.records.now }
+        ensures { result.now ≡ self.entry.rows.places.now }
     {
-        let records = self.records;
-        records
+        self.rows.into_places()
     }
 
-    // The runs, in order.
+    /// The runs, in order.
     pub fn runs(&self) -> &[Run]
-        requires { RunListOk self.now }
         ensures value { result.now ≡ runs_of self.now }
         ensures order { Apart 0 (self.now.size + 1) result.now }
         ensures longest { (k : ℕ) (d : Run) → k < length result.now → Longest (list_means self.now).held (slice_index_or result.now k d) }
     {
-        &self.records[0..self.len]
+        self.rows.as_slice()
     }
 
     // The runs, with their order in the type.
+    #[tactic(auto, using(crate::proofs::Order::apart_high))]
     fn ordered(&self) -> Ordered<'_>
-        requires { RunListOk self.now }
         ensures { result.runs.now ≡ runs_of self.now }
     {
         Ordered { runs: self.runs() }
     }
 
-    // What a stretch reaches, if it is one of this list.
-    fn look(&self, first: u32, n: u32) -> Result<Reach, Refusal>
-        requires { RunListOk self.now }
-        ensures { Looked self.now first n result }
+    // What a span reaches.
+    fn look(&self, span: Span) -> Reach
+        requires { span.end ≤ self.now.size }
+        ensures { Reaches (runs_of self.now) span.first span.end result }
     {
-        let end = end_of(self.size, first, n)?;
-        Ok(self.ordered().look(first, end))
-    }
-
-    // Commits or releases a stretch, and answers how many granules changed.
-    fn turn(&mut self, first: u32, n: u32, on: bool) -> Result<u32, Refusal>
-        requires { RunListOk self.old }
-        ensures answer { reply result ≡ (if on then commit_reply (list_means self.old) first n else release_reply (list_means self.old) first n) }
-        ensures after { list_means self.new ≡ (if on then commit_after (list_means self.old) first n else release_after (list_means self.old) first n) }
-        ensures spares { spare_records self.new.size self.new.records.now ≡ spare_records self.old.size self.old.records.now }
-        ensures valid { RunListOk self.new }
-    {
-        let reach = self.look(first, n)?;
-        let len = self.len;
-        if on {
-            self.len = rows::merge(self.records, len, reach);
-            let added = n - reach.held;
-            self.count += added;
-            return Ok(added);
-        }
-        self.len = rows::cut(self.records, len, reach, first, first + n);
-        self.count -= reach.held;
-        Ok(reach.held)
+        self.ordered().look(span)
     }
 }
 
 impl Backing for RunList<'_> {
-    ghost means = { list_means };
+    ghost use Rattle.runs.specs.Lists.{list_means, spare_records};
+    ghost use Rattle.runs.specs.Soundness.{list_sound};
 
-    ghost ok = { RunListOk };
+    ghost means = { list_means };
 
     ghost sound = { list_sound };
 
     ghost Spare = { List Run };
 
-    ghost spare = { λ l. spare_records l.size l.records.now };
+    ghost spare = { λ l. spare_records l.size l.rows.places.now };
 
     fn size(&self) -> u32 {
         self.size
@@ -128,15 +103,28 @@ impl Backing for RunList<'_> {
         self.ordered().holds(granule)
     }
 
-    fn commit(&mut self, first: u32, n: u32) -> Result<u32, Refusal> {
-        self.turn(first, n, true)
+    #[tactic(auto, using(backing::specs::Soundness::tally_le), unfolding(backing::specs::Meaning::commit_after, backing::specs::Replies::commit_reply))]
+    fn commit(&mut self, stretch: Stretch) -> Result<u32, Refusal> {
+        let span = stretch.within(self.size)?;
+        let reach = self.look(span);
+        let added = span.count() - reach.held;
+        reach.merge(&mut self.rows);
+        self.count += added;
+        Ok(added)
     }
 
-    fn release(&mut self, first: u32, n: u32) -> Result<u32, Refusal> {
-        self.turn(first, n, false)
+    #[tactic(auto, using(backing::specs::Soundness::tally_le), unfolding(backing::specs::Meaning::release_after, backing::specs::Replies::release_reply))]
+    fn release(&mut self, stretch: Stretch) -> Result<u32, Refusal> {
+        let span = stretch.within(self.size)?;
+        let reach = self.look(span);
+        reach.cut(&mut self.rows, span);
+        self.count -= reach.held;
+        Ok(reach.held)
     }
 
-    fn missing(&self, first: u32, n: u32) -> Result<u32, Refusal> {
-        Ok(n - self.look(first, n)?.held)
+    #[tactic(auto, using(backing::specs::Soundness::tally_le, backing::proofs::Tallies::tally_both), unfolding(backing::specs::Replies::missing_reply))]
+    fn missing(&self, stretch: Stretch) -> Result<u32, Refusal> {
+        let span = stretch.within(self.size)?;
+        Ok(span.count() - self.look(span).held)
     }
 }

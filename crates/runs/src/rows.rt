@@ -1,29 +1,29 @@
-// Runs in a row of records, changed in place.
-ghost use Rattle.std.specs.Prelude.{◌≡◌, ◌+◌, ◌-◌, ◌^◌, ◌<◌, ◌≤◌, min, max, length, take, drop};
-ghost use Rattle.std.proofs.Math.Seq.{paste};
-ghost use Rattle.runs.specs.Rows.{end_of, row, spliced};
-ghost use Rattle.runs.specs.Reach.{Widens, merged, parted};
+// Runs, and what is done to a row of them.
+ghost use Rattle.std.specs.Prelude.{◌≡◌, ◌+◌, ◌-◌, ◌^◌, ◌<◌, ◌≤◌, min, max, length, drop, nat_lt};
+ghost use Rattle.runs.specs.Rows.{covers, end_of, row};
 
-// A row of committed granules: `count` of them, from `first` on.
+use crate::lent::LentVec;
+use backing::Span;
+
+/// A row of committed granules: `count` of them, from `first` on.
 #[derive(Clone, Copy, Debug, PartialEq, Eq)]
 pub struct Run {
     pub first: u32,
     pub count: u32,
 }
 
-// The runs that a stretch meets or lies right beside: those from `at` up to `past`.
-#[derive(Clone, Copy)]
-pub(crate) struct Reach {
-    pub(crate) at: usize,
-    pub(crate) past: usize,
-    // They and the stretch are the granules from `low` up to `high`.
-    pub(crate) low: u32,
-    pub(crate) high: u32,
-    // How many granules of the stretch they hold.
-    pub(crate) held: u32,
-}
-
 impl Run {
+    // The granules from `low` up to `high`.
+    fn between(low: u32, high: u32) -> Run
+        requires { low ≤ high }
+        ensures { result ≡ row low high }
+    {
+        Run {
+            first: low,
+            count: high - low,
+        }
+    }
+
     // The granule right after the run.
     pub(crate) fn end(&self) -> u32
         requires { end_of self.now < 2 ^ 32 }
@@ -31,99 +31,82 @@ impl Run {
     {
         self.first + self.count
     }
+
+    pub(crate) fn covers(&self, granule: u32) -> bool
+        ensures { result ≡ covers self.now granule }
+    {
+        self.first <= granule && granule - self.first < self.count
+    }
+
+    pub(crate) fn ends_before(&self, granule: u32) -> bool
+        ensures { result ≡ nat_lt (end_of self.now) granule }
+    {
+        self.first < granule && self.count < granule - self.first
+    }
+}
+
+// The runs that a span meets or lies right beside: those from `at` up to `past`.
+#[derive(Clone, Copy, Debug)]
+pub(crate) struct Reach {
+    pub(crate) at: usize,
+    pub(crate) past: usize,
+    // They and the span are the granules from `low` up to `high`.
+    pub(crate) low: u32,
+    pub(crate) high: u32,
+    // How many granules of the span they hold.
+    pub(crate) held: u32,
 }
 
 impl Reach {
-    // With a run more that meets the stretch or lies right beside it.
-    pub(crate) fn widened(self, run: Run, first: u32, end: u32) -> Reach
+    ghost use Rattle.runs.specs.Reach.{Widens, merged, parted};
+    ghost use Rattle.runs.specs.Lent.{items_of};
+
+    // With a run more that meets the span or lies right beside it.
+    pub(crate) fn widened(self, run: Run, span: Span) -> Reach
         requires fits { end_of run < 2 ^ 32 }
-        requires meets { (run.first ≤ end) × (first ≤ end_of run) × (first < end) }
-        requires few { self.held + (min (end_of run) end - max run.first first) < 2 ^ 32 }
-        ensures { Widens self run first end result }
+        requires meets { (run.first ≤ span.end) × (span.first ≤ end_of run) }
+        requires few { self.held + (min (end_of run) span.end - max run.first span.first) < 2 ^ 32 }
+        ensures { Widens self run span.first span.end result }
     {
         Reach {
             low: self.low.min(run.first),
             high: self.high.max(run.end()),
-            held: self.held + (run.end().min(end) - run.first.max(first)),
+            held: self.held + (run.end().min(span.end) - run.first.max(span.first)),
             ..self
         }
     }
-}
 
-// Moves the runs from `past` up to `len` to the place `to`.
-fn shift(runs: &mut [Run], past: usize, len: usize, to: usize)
-    requires within { past ≤ len }
-    requires used { len ≤ length runs.old }
-    requires fits { to + (len - past) ≤ length runs.old }
-    ensures { runs.new ≡ paste runs.old to (drop past runs.old) (len - past) }
-{
-    if to != past {
-        runs.copy_within(past..len, to);
+    // Puts one run in the place of those that are reached.
+    pub(crate) fn merge(self, runs: &mut LentVec<'_, Run>)
+        requires order { self.at ≤ self.past }
+        requires some { self.low < self.high }
+        requires within { self.past ≤ runs.old.len }
+        requires fits { length (merged (items_of runs.old) self) ≤ length runs.old.places.now }
+        ensures runs { items_of runs.new ≡ merged (items_of runs.old) self }
+        ensures count { runs.new.len ≡ length (merged (items_of runs.old) self) }
+        ensures rest { drop runs.new.len runs.new.places.now ≡ drop runs.new.len runs.old.places.now }
+    {
+        runs.splice(self.at..self.past, &[Run::between(self.low, self.high)]);
     }
-}
 
-// Puts `new` in the place of the runs from `at` up to `past`, of the first `len`, and answers how many there are then.
-fn splice(runs: &mut [Run], len: usize, at: usize, past: usize, new: &[Run]) -> usize
-    requires order { at ≤ past }
-    requires within { past ≤ len }
-    requires used { len ≤ length runs.old }
-    requires fits { at + length new.now + (len - past) ≤ length runs.old }
-    ensures count { result ≡ at + length new.now + (len - past) }
-    ensures runs { take result runs.new ≡ spliced (take len runs.old) at past new.now }
-    ensures rest { drop result runs.new ≡ drop result runs.old }
-{
-    let to = at + new.len();
-    shift(runs, past, len, to);
-    runs[at..to].copy_from_slice(new);
-    to + (len - past)
-}
-
-// The granules from `low` up to `high` as one run.
-fn row(low: u32, high: u32) -> Run
-    requires { low ≤ high }
-    ensures { result ≡ row low high }
-{
-    Run {
-        first: low,
-        count: high - low,
+    // Takes a span out of the runs that it reaches.
+    pub(crate) fn cut(self, runs: &mut LentVec<'_, Run>, span: Span)
+        requires order { self.at ≤ self.past }
+        requires within { self.past ≤ runs.old.len }
+        requires from { self.low ≤ span.first }
+        requires to { span.end ≤ self.high }
+        requires fits { length (parted (items_of runs.old) self span.first span.end) ≤ length runs.old.places.now }
+        ensures runs { items_of runs.new ≡ parted (items_of runs.old) self span.first span.end }
+        ensures count { runs.new.len ≡ length (parted (items_of runs.old) self span.first span.end) }
+        ensures rest { drop runs.new.len runs.new.places.now ≡ drop runs.new.len runs.old.places.now }
+    {
+        let sides = [
+            Run::between(self.low, span.first),
+            Run::between(span.end, self.high),
+        ];
+        // A side without a granule is left out.
+        let from = usize::from(self.low == span.first);
+        let to = 1 + usize::from(span.end < self.high);
+        runs.splice(self.at..self.past, &sides[from..to]);
     }
-}
-
-// Puts one run in the place of those that a stretch reaches, and answers how many there are then.
-pub(crate) fn merge(runs: &mut [Run], len: usize, reach: Reach) -> usize
-    requires order { reach.at ≤ reach.past }
-    requires within { reach.past ≤ len }
-    requires used { len ≤ length runs.old }
-    requires some { reach.low < reach.high }
-    requires fits { reach.at + 1 + (len - reach.past) ≤ length runs.old }
-    ensures runs { take result runs.new ≡ merged (take len runs.old) reach }
-    ensures count { result ≡ length (merged (take len runs.old) reach) }
-    ensures rest { drop result runs.new ≡ drop result runs.old }
-{
-    splice(
-        runs,
-        len,
-        reach.at,
-        reach.past,
-        &[row(reach.low, reach.high)],
-    )
-}
-
-// Takes a stretch out of the runs that it reaches, and answers how many there are then.
-pub(crate) fn cut(runs: &mut [Run], len: usize, reach: Reach, first: u32, end: u32) -> usize
-    requires order { reach.at ≤ reach.past }
-    requires within { reach.past ≤ len }
-    requires used { len ≤ length runs.old }
-    requires from { reach.low ≤ first }
-    requires to { end ≤ reach.high }
-    requires fits { length (parted (take len runs.old) reach first end) ≤ length runs.old }
-    ensures runs { take result runs.new ≡ parted (take len runs.old) reach first end }
-    ensures count { result ≡ length (parted (take len runs.old) reach first end) }
-    ensures rest { drop result runs.new ≡ drop result runs.old }
-{
-    let sides = [row(reach.low, first), row(end, reach.high)];
-    // A side without a granule is left out.
-    let from = usize::from(reach.low == first);
-    let to = 1 + usize::from(end < reach.high);
-    splice(runs, len, reach.at, reach.past, &sides[from..to])
 }

@@ -1,10 +1,12 @@
-use Rattle.std.proofs.Common.{◌∙◌, arith, get_or-set_other, get_or-set_same, drop-set-lt, below_more}
+use Rattle.std.proofs.Common.{◌≡◌, ◌-◌, false, sym, ap, ◌∙◌, arith, rules}
+use Rattle.std.proofs.lemmas.List.{get_or_past}
+use lib.Bits.{bit_and}
+use Rattle.backing.specs.Bits.{bit_of}
+use Rattle.backing.proofs.Bytes.{bits_off, all_turned}
 use Rattle.backing.proofs.bits.clear.Goals as goal
 
-pub loop-k-preserved : goal.loop-k-preserved
-loop-k-preserved c = (
-  below_more _ _
-      (λ k h. get_or-set_other c.loop-k.bytes c.loop-k.k k 0 0 (omega arith) ∙ c.loop-k.invariant.0 k h)
-      (get_or-set_same c.loop-k.bytes c.loop-k.k 0 0 (omega arith)),
-  drop-set-lt c.args.n c.loop-k.bytes c.loop-k.k 0 c.loop-k-test.true ∙ c.loop-k.invariant.1,
-)
+pub returns-clause-bits : goal.returns-clause-bits
+returns-clause-bits c =
+    all_turned c.args.bytes.now c.change.new.bytes c.args.span.first c.args.span.end false _ c.requires c.change.ensures.bytes
+    (λ byte bits r j h l p. let is : r ≡ bit_and byte (255 - bits) = search rules in ap (λ x. bit_of x j) is ∙ bits_off byte bits j h l)
+    (λ k h. get_or_past c.change.new.bytes k 0 (omega arith) ∙ sym (get_or_past c.args.bytes.now k 0 h))

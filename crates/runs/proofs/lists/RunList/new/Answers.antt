@@ -1,25 +1,38 @@
-use Rattle.std.proofs.Common.{◌+◌, false, length, Ok, sym, refl, ap, ◌∙◌, arith}
+use Rattle.std.proofs.Common.{◌≡◌, ℕ, ◌+◌, true, false, length, take, Ok, subst, sym, ap, ◌∙◌, arith}
 use mathlib.Core.Path.{fun_ext}
-use Rattle.std.proofs.lemmas.Bool.{and_from, cond-true, le-leb}
+use Rattle.backing.specs.Makings.{fits_in}
 use Rattle.backing.specs.Meaning.{tally}
-use Rattle.backing.proofs.Full.{full}
+use Rattle.backing.proofs.Lent.{full, fits_of, made_of}
 use Rattle.backing.proofs.Tallies.{tally_const}
-use Rattle.runs.specs.Lists.{records_for}
+use Rattle.runs.specs.Lent.{items_of}
+use Rattle.runs.specs.Rows.{Apart, in_runs}
 use Rattle.runs.proofs.Order.{apart_none, in_none}
 use Rattle.runs.proofs.lists.RunList.new.Goals as goal
+use Rattle.runs.proofs.lists.RunList.new.Goals.{After-new}
 
-pub returns : goal.returns
-returns c =
-    let size = c.args.size in
+enough : (c : After-new) → fits_in c.args.size c.div_ceil-needed.result (length c.args.records.now) ≡ true
+enough c = sym c.is_enough.ensures ∙ c.if-not-is_enough.false
+
+-- no run is there, so no granule lies in one
+empty : (c : After-new) (g : ℕ) → in_runs (items_of c.new.result) g ≡ false
+empty c g = ap (λ n. in_runs (take n c.new.result.places.now) g) c.new.ensures.len ∙ in_none g
+
+pub invariant_of-result : goal.invariant_of-result
+invariant_of-result c =
+    let a = (goal.at.invariant_of-result c).After-new in
+    let fits = fits_of c.args.size c.div_ceil-needed.result (length c.args.records.now) (enough a) in
     record {
-      answer = ap (λ h. Ok (full h size)) (fun_ext in_none) ∙ sym (cond-true _ _ _ (and_from _ _ (and_from _ _ (le-leb 1 size (omega arith)) (le-leb size 1024 (omega arith))) (le-leb (records_for size) (length c.args.records.now) (omega arith))));
-      spares = refl;
-      valid = record {
-        some = omega arith;
-        bounded = omega arith;
-        covered = omega arith;
-        used = omega arith;
-        apart = apart_none 0 (size + 1) (omega arith);
-        counted = sym (ap (λ h. tally h 0 size) (fun_ext in_none) ∙ tally_const false 0 size);
+      ok = record {
+        some = fits.some;
+        bounded = fits.bounded;
+        covered = omega (arith, fits.covered, ap length c.new.ensures.places);
+        used = c.new.result.used;
+        apart = subst (λ n. Apart 0 (c.args.size + 1) (take n c.new.result.places.now)) (sym c.new.ensures.len) (apart_none 0 (c.args.size + 1) (omega arith));
+        counted = sym (ap (λ h. tally h 0 c.args.size) (fun_ext (empty a)) ∙ tally_const false 0 c.args.size);
       };
     }
+
+pub returns-clause-answer : goal.returns-clause-answer
+returns-clause-answer c =
+    let a = (goal.at.returns-clause-answer c).After-new in
+    ap (λ h. Ok (full h c.args.size)) (fun_ext (empty a)) ∙ made_of c.args.size _ c.div_ceil-needed.result (length c.args.records.now) (enough a) (omega arith)

@@ -1,19 +1,14 @@
-use Rattle.std.proofs.Common.{arith}
-use Rattle.runs.proofs.Order.{blank}
-use Rattle.runs.proofs.Order.{here, held_here, not_here, held_none, in_none}
+use Rattle.std.proofs.Common.{leb, arith, rules}
+use Rattle.std.proofs.lemmas.Bool.{leb-true, leb-false}
+use Rattle.std.proofs.lemmas.List.Sorted.{IsPartitionPoint-from_clause}
+use Rattle.runs.proofs.Points.{firsts_parted, held_by}
 use Rattle.runs.proofs.ordered.Ordered.holds.Goals as goal
 
-pub loop-run-init : goal.loop-run-init
-loop-run-init c = in_none c.args.granule
-
-pub end-requires : goal.end-requires
-end-requires c = omega (arith, (here c.args.self.now.runs.now 1025 c.args.self.now.apart c.loop-run.run-index blank (omega arith)).high)
-
-pub returns-then-granule-end : goal.returns-then-granule-end
-returns-then-granule-end c = held_here c.args.self.now.runs.now 1025 c.args.self.now.apart c.loop-run.run-index blank (omega arith) c.args.granule c.loop-run.invariant (omega arith)
-
-pub loop-run-preserved : goal.loop-run-preserved
-loop-run-preserved c = not_here c.args.self.now.runs.now 1025 c.args.self.now.apart c.loop-run.run-index blank (omega arith) c.args.granule c.loop-run.invariant (omega arith)
-
 pub returns : goal.returns
-returns c = held_none c.args.self.now.runs.now c.loop-run.run-index c.args.granule (omega arith) c.loop-run.invariant
+returns c =
+    let rs = c.args.self.now.runs.now in
+    let apart = c.args.self.now.apart in
+    let point = IsPartitionPoint-from_clause (λ r. leb r.first c.args.granule) _ _ c.partition_point-past.ensures.partitioned (firsts_parted rs 1025 apart c.args.granule) (λ a r q k. search rules) in
+    held_by rs 1025 apart c.partition_point-past.result c.args.granule c.partition_point-past.ensures.bound
+    (λ j d h. leb-true _ _ (point.0 j d (omega arith) h)) (λ j d l h. leb-false _ _ (point.1 j d l h))
+    c.last-last.result c.is_some_and.result _ c.last-last.ensures.value c.is_some_and.ensures (λ x q. search rules)

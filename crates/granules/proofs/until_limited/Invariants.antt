@@ -1,4 +1,0 @@
-use Rattle.granules.proofs.until_limited.Given as goal
-
-abbrev pub invariant-loop : goal.invariant-loop
-invariant-loop g l = g.B.Backing.ok l.backing
