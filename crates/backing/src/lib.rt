@@ -12,7 +12,7 @@ mod stretches;
 
 pub use interface::Backing;
 pub use limits::Limiter;
-pub use makings::{MOST_GRANULES, is_enough};
+pub use makings::{MOST_GRANULES, enough};
 pub use masks::Mask;
 pub use refusals::{Refusal, Refused};
 pub use stretches::{Span, Stretch};

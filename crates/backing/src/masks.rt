@@ -4,7 +4,7 @@ ghost use Rattle.backing.specs.Bits.{MaskOk};
 
 use crate::bits;
 use crate::interface::Backing;
-use crate::makings::is_enough;
+use crate::makings::enough;
 use crate::refusals::{Refusal, Refused};
 use crate::stretches::{Span, Stretch};
 
@@ -28,12 +28,7 @@ impl<'a> Mask<'a> {
         ensures spares { MatchResult result (λ m. spare_bytes size m.bytes.now ≡ spare_bytes size bytes.old) (λ e. e.back.now ≡ bytes.old) }
     {
         let needed = size.div_ceil(8) as usize;
-        if !is_enough(size, needed, bytes.len()) {
-            return Err(Refused {
-                why: Refusal::BadMaking,
-                back: bytes,
-            });
-        }
+        let bytes = enough(bytes, size, needed)?;
         bytes[..needed].fill(0);
         Ok(Mask {
             bytes,
@@ -46,8 +41,7 @@ impl<'a> Mask<'a> {
     pub fn into_bytes(self) -> &'a mut [u8]
         ensures { result.now ≡ self.entry.bytes.now }
     {
-        let bytes = self.bytes;
-        bytes
+        self.bytes
     }
 
     // How many granules of a span are committed.

@@ -6,7 +6,7 @@ mod run_lists;
 
 #[cfg(test)]
 mod tests {
-    use backing::{Backing, Limiter, MOST_GRANULES, Mask, Refusal, Stretch, is_enough};
+    use backing::{Backing, Limiter, MOST_GRANULES, Mask, Refusal, Stretch, enough};
     use std::process::Abort;
     use std::test::Fail;
 
@@ -200,12 +200,13 @@ mod tests {
     }
 
     #[test]
-    fn places_for_a_backing(rt: HostRuntime) {
-        assert!(rt; is_enough(1, 1, 1));
-        assert!(rt; is_enough(MOST_GRANULES, 128, 200));
-        assert!(rt; !is_enough(MOST_GRANULES + 1, 128, 200));
-        assert!(rt; !is_enough(0, 0, 200));
-        assert!(rt; !is_enough(9, 2, 1));
+    fn memory_for_a_backing(rt: HostRuntime) {
+        let mut places = [7; 200];
+        assert!(rt; enough(&mut places, 1, 1).is_ok());
+        assert!(rt; enough(&mut places, MOST_GRANULES, 200).is_ok());
+        assert!(rt; enough(&mut places, MOST_GRANULES, 201).is_err());
+        assert!(rt; enough(&mut places, MOST_GRANULES + 1, 128).is_err());
+        assert!(rt; enough(&mut places, 0, 0).is_err());
     }
 
     #[test]
@@ -217,6 +218,20 @@ mod tests {
         assert_eq!(rt; refused.to_string(rt.alloc())?.as_str(), "no 6");
         assert_eq!(rt; Refusal::from(refused), Refusal::BadMaking);
         Ok(())
+    }
+
+    fn limited_to_ten() -> Result<u32, Refusal> {
+        let mut bytes = [0; 8];
+        let mask = Mask::new(&mut bytes, 64)?;
+        let mut backing = Limiter::new(mask, 10)?;
+        backing.commit(stretch(0, 8))?;
+        backing.commit(stretch(20, 4))
+    }
+
+    #[test]
+    fn refused_makings_become_refusals(rt: HostRuntime) {
+        let over = Refusal::OverAllowance { wanted: 4, left: 2 };
+        assert_eq!(rt; limited_to_ten(), Err(over));
     }
 
     #[test]

@@ -86,6 +86,7 @@ impl<R: BufRead> Lines<R> {
             return Ok(0);
         };
         self.number = number;
-        Ok(self.reader.read_until(b'\n', &mut self.line)?)
+        let read = self.reader.read_until(b'\n', &mut self.line)?;
+        Ok(read)
     }
 }

@@ -4,7 +4,7 @@
 mod input;
 mod session;
 
-use anyhow::anyhow;
+use anyhow::bail;
 use session::Session;
 use std::env;
 use std::io::{BufReader, Input};
@@ -31,6 +31,6 @@ fn main(rt: HostRuntime) -> anyhow::Result<()> {
             Session::new(&rt, reader, rt.alloc()).converse()
         }
         Some(word) if word.as_str() == "--help" => Ok(println!(rt; "{HELP}")?),
-        Some(_) => Err(anyhow!("granules takes no argument but --help")),
+        Some(_) => bail!("granules takes no argument but --help"),
     }
 }

@@ -4,13 +4,13 @@ ghost use Rattle.backing.specs.Limits.{limit_of};
 ghost use Rattle.granules.specs.Lines.{line_of, lines_left, Spells};
 
 use crate::input::{Line, Lines};
-use backing::{Backing, Limiter, Mask, Refused};
+use backing::{Backing, Limiter, MOST_GRANULES, Mask, Refused};
 use requests::{Answer, Request, serve};
 use std::alloc::Global;
 use std::io::BufRead;
 
-// As many bytes as the largest mask needs.
-const BYTES: usize = 128;
+// As many bytes as the largest mask needs. An array, since there is no heap for a mask.
+const BYTES: usize = MOST_GRANULES as usize / 8;
 
 /// The runtime that answers are printed by, and the lines that are left to read.
 #[derive(Debug, Drop)]
@@ -41,7 +41,7 @@ impl<'a, P: Print, R: BufRead> Session<'a, P, R> {
                 self.say(Answer::Mask(Ok(granules)))?;
                 self.under_limits(mask)
             }
-            Err(refused) => self.say(Answer::Mask(Err(refused.why))),
+            Err(refused) => self.say(Answer::Mask(Err(refused.into()))),
         }
     }
 
@@ -115,8 +115,7 @@ impl<'a, P: Print, R: BufRead> Session<'a, P, R> {
                     self.say(Answer::Limit(Ok(limiter.allowance())))?;
                     return Ok(Some(limiter));
                 }
-                Err(refused) => {
-                    let Refused { why, back } = refused;
+                Err(Refused { why, back }) => {
                     self.say(Answer::Limit(Err(why)))?;
                     backing = back;
                 }

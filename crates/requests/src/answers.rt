@@ -39,7 +39,7 @@ impl fmt::Display for Answer {
 }
 
 // What a call answered: its number, or why it was refused.
-#[derive(Clone, Copy)]
+#[derive(Clone, Copy, Debug)]
 struct Outcome(Result<u32, Refusal>);
 
 impl fmt::Display for Outcome {

@@ -4,7 +4,7 @@ use mathlib.Core.Bool.{or-false}
 use Rattle.std.proofs.lemmas.List.{drop_more, drop_all}
 use Rattle.std.proofs.lemmas.Bool.{both_ways, cases_lt}
 use Rattle.std.proofs.lemmas.Bool.Decides.{nat_tests}
-use Rattle.backing.specs.Meaning.{tally}
+use Rattle.backing.specs.Meaning.{tally, most_granules}
 use Rattle.backing.specs.Soundness.{tally_le}
 use Rattle.backing.proofs.Tallies.{tally_same, tally_const}
 use Rattle.runs.specs.declared.rows.Run.{Run}
@@ -39,7 +39,7 @@ next_none : (rs : List Run) → next 0 (take 0 rs) ≡ 0
 unfolding next
 next_none rs = refl
 
-module _ (rs : List Run) (p : Apart 0 1025 rs) (first end : ℕ) (order : first < end) where
+module _ (rs : List Run) (p : Apart 0 (most_granules + 1) rs) (first end : ℕ) (order : first < end) where
   -- the runs that end before the stretch are not reached
   module _ (k : ℕ) (within : k ≤ length rs) (ends : (j : ℕ) (d : Run) → j < k → end_of (get_or rs j d) < first) where
     ends_at : next 0 (take k rs) ≤ first
@@ -49,11 +49,11 @@ module _ (rs : List Run) (p : Apart 0 1025 rs) (first end : ℕ) (order : first 
         go zero e = let none : next 0 (take 0 rs) ≡ 0 = next_none rs in omega (arith, ap (λ i. next 0 (take i rs)) e)
         go (suc n) e =
             let last : k ≡ n + 1 = omega arith in
-            let at_n = here rs 1025 p n blank (omega arith) in
+            let at_n = here rs (most_granules + 1) p n blank (omega arith) in
             omega (arith, ap (λ i. next 0 (take i rs)) last, at_n.next_is, ends n blank (omega arith))
 
     front_before : Apart 0 first (take k rs)
-    front_before = apart_high 0 (next 0 (take k rs)) first (take k rs) ends_at (front rs 1025 p k)
+    front_before = apart_high 0 (next 0 (take k rs)) first (take k rs) ends_at (front rs (most_granules + 1) p k)
 
     pub seen_from : Seen rs first end k k first end 0
     seen_from = record {
@@ -72,10 +72,10 @@ module _ (rs : List Run) (p : Apart 0 1025 rs) (first end : ℕ) (order : first 
     abbrev run : Run
     run = get_or rs k d
 
-    at_k : Here rs 1025 k run
-    at_k = here rs 1025 p k d within
+    at_k : Here rs (most_granules + 1) k run
+    at_k = here rs (most_granules + 1) p k d within
 
-    pub run_fits : end_of (get_or rs k d) < 1025
+    pub run_fits : end_of (get_or rs k d) < (most_granules + 1)
     run_fits = at_k.high
 
     -- what the run adds
@@ -90,7 +90,7 @@ module _ (rs : List Run) (p : Apart 0 1025 rs) (first end : ℕ) (order : first 
         apart g t =
             ⊎_elim
             (λ below. grind (arith, nat_tests))
-            (λ at-or-past. absurd (both_ways (in_runs (take k rs) g) (none_above 0 (next 0 (take k rs)) (take k rs) g (front rs 1025 p k) (omega (arith, at_k.low))) t))
+            (λ at-or-past. absurd (both_ways (in_runs (take k rs) g) (none_above 0 (next 0 (take k rs)) (take k rs) g (front rs (most_granules + 1) p k) (omega (arith, at_k.low))) t))
             (cases_lt g run.first)
 
     pub few_more : held + (min (end_of run) end - max run.first first) ≤ end - first
@@ -103,7 +103,7 @@ module _ (rs : List Run) (p : Apart 0 1025 rs) (first end : ℕ) (order : first 
         (λ l. apart_high 0 low run.first (take at rs) (omega (arith, seen.met l, seen.from, at_k.low)) seen.before)
         (λ l.
         let same : k ≡ at = omega (arith, seen.order) in
-        apart_high 0 (next 0 (take at rs)) run.first (take at rs) (subst (λ i. next 0 (take i rs) ≤ run.first) same at_k.low) (front rs 1025 p at))
+        apart_high 0 (next 0 (take at rs)) run.first (take at rs) (subst (λ i. next 0 (take i rs) ≤ run.first) same at_k.low) (front rs (most_granules + 1) p at))
         (cases_lt at k)
 
     pub seen_met : first ≤ end_of run → run.first ≤ end → (l h n : ℕ) → l ≡ min low run.first → h ≡ max high (end_of run)
@@ -126,7 +126,7 @@ module _ (rs : List Run) (p : Apart 0 1025 rs) (first end : ℕ) (order : first 
         }
 
   -- after the last run that the stretch reaches
-  module _ (bounded : end ≤ 1024) (s : Reach) (seen : Seen rs first end s.past s.at s.low s.high s.held) (within : s.past ≤ length rs)
+  module _ (bounded : end ≤ most_granules) (s : Reach) (seen : Seen rs first end s.past s.at s.low s.high s.held) (within : s.past ≤ length rs)
       (past : (d : Run) → s.past < length rs → end < (get_or rs s.past d).first) where
     rest_apart : (b : ℕ) → Apart 0 b rs → end < b → Apart (s.high + 1) b (drop s.past rs)
     rest_apart b q l =
@@ -143,8 +143,8 @@ module _ (rs : List Run) (p : Apart 0 1025 rs) (first end : ℕ) (order : first 
 
     up_to : (g : ℕ) → first ≤ g → g < first + (end - first) → in_runs rs g ≡ in_runs (take s.past rs) g
     up_to g l r =
-        in_parts rs 1025 p s.past g
-        ∙ ap (λ b. in_runs (take s.past rs) g || b) (none_below (s.high + 1) 1025 (drop s.past rs) g (rest_apart 1025 p (omega arith)) (omega (arith, seen.to)))
+        in_parts rs (most_granules + 1) p s.past g
+        ∙ ap (λ b. in_runs (take s.past rs) g || b) (none_below (s.high + 1) (most_granules + 1) (drop s.past rs) g (rest_apart (most_granules + 1) p (omega arith)) (omega (arith, seen.to)))
         ∙ or-false (in_runs (take s.past rs) g)
 
     pub all_seen : Reaches rs first end s

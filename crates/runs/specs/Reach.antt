@@ -1,17 +1,9 @@
 -- What a stretch of granules, from first up to end, reaches among the runs.
-use Rattle.std.specs.Prelude.{◌≡◌, ℕ, ◌+◌, ◌-◌, ◌<◌, ◌≤◌, min, max, ◌&&◌, ◌||◌, List, [], ◌∷◌, ◌++◌, length, take, drop, nat_le, nat_lt}
+use Rattle.std.specs.Prelude.{◌≡◌, ℕ, ◌+◌, ◌-◌, ◌<◌, ◌≤◌, ◌&&◌, ◌||◌, List, [], ◌∷◌, ◌++◌, length, take, drop, nat_le, nat_lt}
 use Rattle.backing.specs.Meaning.{tally}
 use Rattle.runs.specs.declared.rows.Run.{Run}
 use Rattle.runs.specs.declared.rows.Reach.{Reach}
-use Rattle.runs.specs.Rows.{Apart, in_runs, end_of, row, rows, spliced}
-
--- a reach with a run more
-pub record Widens (was : Reach) (run : Run) (first end : ℕ) (is : Reach) : Type 0 where
-  pub same_at : is.at ≡ was.at
-  pub same_past : is.past ≡ was.past
-  pub low : is.low ≡ min was.low run.first
-  pub high : is.high ≡ max was.high (end_of run)
-  pub held : is.held ≡ was.held + (min (end_of run) end - max run.first first)
+use Rattle.runs.specs.Rows.{Apart, in_runs, row, rows, spliced}
 
 -- the runs before, those reached and those past; the stretch and those reached are all from low up to high
 pub record Reaches (runs : List Run) (first end : ℕ) (is : Reach) : Type 0 where

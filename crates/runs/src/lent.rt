@@ -28,8 +28,7 @@ impl<'a, T: Copy + Drop> LentVec<'a, T> {
     pub(crate) fn into_places(self) -> &'a mut [T]
         ensures { result.now ≡ self.entry.places.now }
     {
-        let places = self.places;
-        places
+        self.places
     }
 
     pub(crate) fn as_slice(&self) -> &[T]
@@ -63,6 +62,7 @@ fn shift<T: Copy>(places: &mut [T], range: Range<usize>, to: usize)
     requires fits { to + (range.end - range.start) ≤ length places.old }
     ensures { places.new ≡ paste places.old to (drop range.start places.old) (range.end - range.start) }
 {
+    // Copied onto itself, a long tail takes as long as moved.
     if to != range.start {
         places.copy_within(range, to);
     }

@@ -6,7 +6,7 @@ ghost use Rattle.runs.specs.Rows.{RunListOk};
 use crate::lent::LentVec;
 use crate::ordered::Ordered;
 use crate::rows::{Reach, Run};
-use backing::{Backing, Refusal, Refused, Span, Stretch, is_enough};
+use backing::{Backing, Refusal, Refused, Span, Stretch, enough};
 
 #[derive(Debug, Drop)]
 pub struct RunList<'a> {
@@ -28,13 +28,7 @@ impl<'a> RunList<'a> {
         ensures answer { making list_means result ≡ list_making size (length records.old) }
         ensures spares { MatchResult result (λ l. l.rows.places.now ≡ records.old) (λ e. e.back.now ≡ records.old) }
     {
-        let needed = size.div_ceil(2) as usize;
-        if !is_enough(size, needed, records.len()) {
-            return Err(Refused {
-                why: Refusal::BadMaking,
-                back: records,
-            });
-        }
+        let records = enough(records, size, size.div_ceil(2) as usize)?;
         Ok(RunList {
             rows: LentVec::new(records),
             size,

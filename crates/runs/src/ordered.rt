@@ -31,16 +31,20 @@ impl Ordered<'_> {
     {
         let at = self.runs.partition_point(|run| run.ends_before(span.first));
         let past = self.runs.partition_point(|run| run.first <= span.end);
-        let mut reach = Reach {
+        let mut low = span.first;
+        let mut high = span.end;
+        let mut held = 0;
+        for run in &self.runs[at..past] {
+            low = low.min(run.first);
+            high = high.max(run.end());
+            held += run.end().min(span.end) - run.first.max(span.first);
+        }
+        Reach {
             at,
             past,
-            low: span.first,
-            high: span.end,
-            held: 0,
-        };
-        for run in &self.runs[at..past] {
-            reach = reach.widened(*run, span);
+            low,
+            high,
+            held,
         }
-        reach
     }
 }

@@ -32,6 +32,7 @@ impl Run {
         self.first + self.count
     }
 
+    // By differences, here and below: a sum of any two numbers need not fit.
     pub(crate) fn covers(&self, granule: u32) -> bool
         ensures { result ≡ covers self.now granule }
     {
@@ -55,31 +56,16 @@ pub(crate) struct Reach {
     pub(crate) high: u32,
     // How many granules of the span they hold.
     pub(crate) held: u32,
+    pub(crate) ghost order: { at ≤ past },
+    pub(crate) ghost some: { low < high },
 }
 
 impl Reach {
-    ghost use Rattle.runs.specs.Reach.{Widens, merged, parted};
+    ghost use Rattle.runs.specs.Reach.{merged, parted};
     ghost use Rattle.runs.specs.Lent.{items_of};
-
-    // With a run more that meets the span or lies right beside it.
-    pub(crate) fn widened(self, run: Run, span: Span) -> Reach
-        requires fits { end_of run < 2 ^ 32 }
-        requires meets { (run.first ≤ span.end) × (span.first ≤ end_of run) }
-        requires few { self.held + (min (end_of run) span.end - max run.first span.first) < 2 ^ 32 }
-        ensures { Widens self run span.first span.end result }
-    {
-        Reach {
-            low: self.low.min(run.first),
-            high: self.high.max(run.end()),
-            held: self.held + (run.end().min(span.end) - run.first.max(span.first)),
-            ..self
-        }
-    }
 
     // Puts one run in the place of those that are reached.
     pub(crate) fn merge(self, runs: &mut LentVec<'_, Run>)
-        requires order { self.at ≤ self.past }
-        requires some { self.low < self.high }
         requires within { self.past ≤ runs.old.len }
         requires fits { length (merged (items_of runs.old) self) ≤ length runs.old.places.now }
         ensures runs { items_of runs.new ≡ merged (items_of runs.old) self }
@@ -91,7 +77,6 @@ impl Reach {
 
     // Takes a span out of the runs that it reaches.
     pub(crate) fn cut(self, runs: &mut LentVec<'_, Run>, span: Span)
-        requires order { self.at ≤ self.past }
         requires within { self.past ≤ runs.old.len }
         requires from { self.low ≤ span.first }
         requires to { span.end ≤ self.high }

@@ -1,10 +1,6 @@
-use Rattle.std.proofs.Common.{◌≡◌, ◌+◌}
+use Rattle.std.proofs.Common.{◌+◌}
 use Rattle.runs.proofs.Looks.{Seen}
 use Rattle.runs.proofs.ordered.Ordered.look.Given as goal
 
 abbrev pub invariant-loop-run : goal.invariant-loop-run
-invariant-loop-run l = record {
-  at : l.reach.at ≡ l.initial.reach.at;
-  past : l.reach.past ≡ l.initial.reach.past;
-  seen : Seen l.self.runs.now l.span.first l.span.end (l.reach.at + l.run-index) l.reach.at l.reach.low l.reach.high l.reach.held;
-}
+invariant-loop-run l = Seen l.self.runs.now l.span.first l.span.end (l.at + l.run-index) l.at l.low l.high l.held
