@@ -6,8 +6,8 @@ use Rattle.std.proofs.lemmas.Bool.{agree_below, agree_below_at, and_parts, both_
 use Rattle.std.proofs.lemmas.Bool.Decides.{nat_tests}
 use Rattle.std.proofs.Math.Bool.{and_comm}
 use Rattle.std.proofs.lemmas.Nat.Bits.{bit_at_or, bit_at_and}
-use Rattle.backing.specs.Bits.{bit_of, bit_at, in_span, TurnsBits, ChangesByte}
-use Rattle.backing.specs.Meaning.{tally, one}
+use Rattle.backing.specs.Bits.{bit_of, bit_at, IsPart, ChangesByte}
+use Rattle.backing.specs.Meaning.{in_span, turn, tally, one}
 use Rattle.backing.proofs.Tallies.{tally_none, tally_suc}
 
 -- a bit of a sum, a product and a complement of bits
@@ -45,7 +45,7 @@ span_right : ℕ → ℕ → Bool
 span_right low high =
     not (leb low high)
     || ((leb (1 * 2 ^ low % 65536) (1 * 2 ^ high % 65536) && ltb (between low high) 256)
-    && agree_below (bit_of (between low high)) (λ j. leb low j && ltb j high) 8)
+    && agree_below (bit_of (between low high)) (in_span low high) 8)
 
 span_test : agree_below (λ low. agree_below (span_right low) (λ _. true) 9) (λ _. true) 9 ≡ true
 unfolding span_right
@@ -54,7 +54,7 @@ span_test = refl
 pub record Span (low high : ℕ) : Type 0 where
   pub order : 1 * 2 ^ low % 65536 ≤ 1 * 2 ^ high % 65536
   pub small : between low high < 256
-  pub bits : (j : ℕ) → j < 8 → bit_of (between low high) j ≡ (leb low j && ltb j high)
+  pub bits : (j : ℕ) → j < 8 → bit_of (between low high) j ≡ in_span low high j
 
 or_then : (a b : Bool) → (not a || b) ≡ true → a ≡ true → b ≡ true
 or_then true b t e = t
@@ -70,7 +70,7 @@ span_of low high o h =
     record {
       order = leb-true _ _ q.0;
       small = ltb-true _ _ q.1;
-      bits = λ j l. agree_below_at (bit_of (between low high)) (λ j. leb low j && ltb j high) 8 j p.1 l;
+      bits = λ j l. agree_below_at (bit_of (between low high)) (in_span low high) 8 j p.1 l;
     }
 
 pub bit_read : (bytes : List ℕ) (g : ℕ) → eqb (bit_and (get_or bytes (g / 8) 0 / 2 ^ (g % 8)) 1) 1 ≡ bit_at bytes g
@@ -82,12 +82,12 @@ module _ (old new : List ℕ) (first end : ℕ) (on : Bool) (change : ℕ → �
     (bytes : (k : ℕ) → k < length old → ChangesByte change first end k (get_or old k 0) (get_or new k 0))
     (turns : (byte bits r j : ℕ) → bits < 256 → j < 8 → change byte bits r → bit_of r j ≡ cond (bit_of bits j) on (bit_of byte j))
     (rest : (k : ℕ) → length old ≤ k → get_or new k 0 ≡ get_or old k 0) where
-  stays : (g : ℕ) → in_span first end g ≡ false → get_or new (g / 8) 0 ≡ get_or old (g / 8) 0 → bit_at new g ≡ cond (in_span first end g) on (bit_at old g)
+  stays : (g : ℕ) → in_span first end g ≡ false → get_or new (g / 8) 0 ≡ get_or old (g / 8) 0 → bit_at new g ≡ turn (bit_at old) first end on g
   unfolding bit_at
   stays g out same = ap (λ x. bit_of x (g % 8)) same ∙ sym (cond-false _ on (bit_at old g) out)
 
   touched : (g : ℕ) → first < 8 * (g / 8) + 8 → 8 * (g / 8) < end → ChangesByte change first end (g / 8) (get_or old (g / 8) 0) (get_or new (g / 8) 0)
-      → bit_at new g ≡ cond (in_span first end g) on (bit_at old g)
+      → bit_at new g ≡ turn (bit_at old) first end on g
   unfolding bit_at
   touched g from to byte =
       let done = byte.touched from to in
@@ -95,7 +95,7 @@ module _ (old new : List ℕ) (first end : ℕ) (on : Bool) (change : ℕ → �
       turns _ done.0 _ (g % 8) done.1 (omega arith) done.3
       ∙ ap (λ t. cond t on (bit_of (get_or old (g / 8) 0) (g % 8))) (done.2 (g % 8) (omega arith) ∙ ap (in_span first end) place)
 
-  pub all_turned : TurnsBits old new first end on
+  pub all_turned : (g : ℕ) → bit_at new g ≡ turn (bit_at old) first end on g
   all_turned g =
       ⊎_elim
       (λ low.
@@ -127,7 +127,7 @@ module _ (s : ℕ → Bool) (first end : ℕ) where
   up_to i = tally s first (min end i - first)
 
   abbrev inner : ℕ → Bool
-  inner g = (leb first g && ltb g end) && s g
+  inner g = in_span first end g && s g
 
   up_to_more : (i : ℕ) → up_to (suc i) ≡ up_to i + one (inner i)
   up_to_more i =
@@ -140,7 +140,7 @@ module _ (s : ℕ → Bool) (first end : ℕ) where
       (λ t.
       let e : min end (suc i) - first ≡ min end i - first = grind (arith, nat_tests) in
       ap (tally s first) e ∙ sym (add-zero (up_to i)) ∙ ap (λ b. up_to i + one (b && s i)) (sym t))
-      (cases_Bool (leb first i && ltb i end))
+      (cases_Bool (in_span first end i))
 
   clipped : (a n : ℕ) → up_to (a + n) ≡ up_to a + tally inner a n
   clipped a zero =
@@ -151,8 +151,7 @@ module _ (s : ℕ → Bool) (first end : ℕ) where
       omega (arith, ap up_to e, up_to_more (a + n), clipped a n, tally_suc inner a n)
 
 -- the bits of one byte that lie in a stretch, counted at once
-module _ (bytes : List ℕ) (k first end bits : ℕ)
-    (spans : (j : ℕ) → j < 8 → bit_of bits j ≡ (leb first (8 * k + j) && ltb (8 * k + j) end)) where
+module _ (bytes : List ℕ) (k first end bits : ℕ) (spans : IsPart first end k bits) where
   one_bit : (j : ℕ) → j < 8 → bit_of (bit_and (get_or bytes k 0) bits) (0 + j) ≡ inner (bit_at bytes) first end (8 * k + j)
   unfolding bit_at
   one_bit j l =
@@ -161,8 +160,8 @@ module _ (bytes : List ℕ) (k first end bits : ℕ)
       let col : (8 * k + j) % 8 ≡ j = omega arith in
       ap (λ x. bit_of (bit_and (get_or bytes k 0) bits) x) z ∙ bit_of_and (get_or bytes k 0) bits j ∙ and_comm (bit_of (get_or bytes k 0) j) (bit_of bits j)
       ∙ ap (λ b. b && bit_of (get_or bytes k 0) j) (spans j l)
-      ∙ ap (λ x. (leb first (8 * k + j) && ltb (8 * k + j) end) && bit_of (get_or bytes x 0) j) (sym row)
-      ∙ ap (λ x. (leb first (8 * k + j) && ltb (8 * k + j) end) && bit_of (get_or bytes ((8 * k + j) / 8) 0) x) (sym col)
+      ∙ ap (λ x. in_span first end (8 * k + j) && bit_of (get_or bytes x 0) j) (sym row)
+      ∙ ap (λ x. in_span first end (8 * k + j) && bit_of (get_or bytes ((8 * k + j) / 8) 0) x) (sym col)
 
   pub byte_counted : (n : ℕ) → get_or bytes k 0 < 256 → n ≡ tally (bit_at bytes) first (min end (8 * k) - first)
       → n + ones (bit_and (get_or bytes k 0) bits) ≡ tally (bit_at bytes) first (min end (8 * (k + 1)) - first)
@@ -175,5 +174,5 @@ module _ (bytes : List ℕ) (k first end bits : ℕ)
       omega (arith, counted, moved, more, ap (λ i. tally (bit_at bytes) first (min end i - first)) e)
 
 -- a stretch seen from the beginning of byte k
-pub moved_span : (k first end low high j : ℕ) → j < 8 → low ≡ first - 8 * k → high ≡ min (end - 8 * k) 8 → (leb low j && ltb j high) ≡ (leb first (8 * k + j) && ltb (8 * k + j) end)
+pub moved_span : (k first end low high j : ℕ) → j < 8 → low ≡ first - 8 * k → high ≡ min (end - 8 * k) 8 → in_span low high j ≡ in_span first end (8 * k + j)
 moved_span k first end low high j h l e = grind (arith, nat_tests)

@@ -1,8 +1,8 @@
 -- The laws of every backing.
-use Rattle.std.proofs.Common.{◌≡◌, ℕ, ◌+◌, ◌≤◌, Bool, true, false, cond, ◌&&◌, [], ◌∷◌, refl, ◌∙◌, arith}
+use Rattle.std.proofs.Common.{◌≡◌, ℕ, ◌+◌, ◌≤◌, Bool, true, false, ◌&&◌, [], ◌∷◌, refl, ◌∙◌, arith}
 use Rattle.std.proofs.lemmas.Bool.{le-leb, cond_both}
 use Rattle.std.proofs.lemmas.Bool.Decides.{nat_tests}
-use Rattle.backing.specs.Meaning.{Meaning, Sound, count, tally, inside, affordable, among, turned, commit_after, release_after, missing}
+use Rattle.backing.specs.Meaning.{Meaning, Sound, count, tally, inside, affordable, turn, turned, commit_after, release_after, missing}
 use Rattle.backing.specs.Replies.{accepted, commit_reply, release_reply}
 use Rattle.backing.specs.Laws.{Call, commit, release, call_after, CallsKeepBackingsSound}
 use Rattle.backing.proofs.Tallies.{tally_added, tally_removed, tally_room}
@@ -27,13 +27,13 @@ release_fewer m first n = let fewer = tally_removed m.held first n m.size in gri
 
 -- past the size nothing is turned
 module _ (m : Meaning) (s : Sound m) (first n : ℕ) (fits : first + n ≤ m.size) where
-  still_none : (on : Bool) (g : ℕ) → m.size ≤ g → cond (among first n g) on (m.held g) ≡ false
+  still_none : (on : Bool) (g : ℕ) → m.size ≤ g → turn m.held first (first + n) on g ≡ false
   still_none on g past =
       let beyond : first + n ≤ g = omega arith in
       let none = s.none_past g past in
       grind (arith, nat_tests)
 
-  still_sound : (on : Bool) → tally (λ g. cond (among first n g) on (m.held g)) 0 m.size ≤ m.allowance → Sound (turned m first n on)
+  still_sound : (on : Bool) → tally (turn m.held first (first + n) on) 0 m.size ≤ m.allowance → Sound (turned m first n on)
   still_sound on within = record { some = s.some; bounded = s.bounded; allowed = s.allowed; within = within; none_past = still_none on }
 
 -- what a call keeps

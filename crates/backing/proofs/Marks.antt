@@ -1,11 +1,11 @@
 -- A mask's bytes read as the set that they mark.
-use Rattle.std.proofs.Common.{◌≡◌, ℕ, ◌+◌, ◌*◌, ◌/◌, ◌%◌, ◌^◌, ◌<◌, ◌≤◌, Bool, false, cond, ◌&&◌, eqb, ltb, leb, List, get_or, length, sym, ap, ◌∙◌, ⊎_elim, arith}
+use Rattle.std.proofs.Common.{◌≡◌, ℕ, ◌+◌, ◌*◌, ◌/◌, ◌%◌, ◌^◌, ◌<◌, ◌≤◌, Bool, false, ◌&&◌, eqb, ltb, List, get_or, length, sym, ap, ◌∙◌, ⊎_elim, arith}
 use mathlib.Core.Path.{fun_ext}
 use native.Mathlib.Nat.{zero-div}
 use Rattle.std.proofs.lemmas.Bool.{cases_lt, lt-ltb}
 use Rattle.std.proofs.lemmas.Bool.Decides.{nat_tests}
-use Rattle.backing.specs.Bits.{bit_of, bit_at, bytes_for, marked, TurnsBits, MaskOk}
-use Rattle.backing.specs.Meaning.{fresh, tally, present}
+use Rattle.backing.specs.Bits.{bit_of, bit_at, bytes_for, marked, MaskOk}
+use Rattle.backing.specs.Meaning.{fresh, tally, present, turn}
 use Rattle.backing.proofs.Lent.{full}
 use Rattle.backing.proofs.Tallies.{tally_const, tally_same}
 
@@ -36,8 +36,8 @@ bits_present bytes size first n fits =
     tally_same (bit_at bytes) (marked bytes size) first n (λ g l h. sym (ap (λ b. b && bit_at bytes g) (lt-ltb g size (omega arith))))
 
 -- the bits of a span turned on, or off
-module _ (bytes after : List ℕ) (size from end : ℕ) (fits : end ≤ size) (on : Bool) (turns : TurnsBits bytes after from end on) where
-  pub mask_turned : (g : ℕ) → marked after size g ≡ cond (leb from g && ltb g end) on (marked bytes size g)
+module _ (bytes after : List ℕ) (size from end : ℕ) (fits : end ≤ size) (on : Bool) (turns : (g : ℕ) → bit_at after g ≡ turn (bit_at bytes) from end on g) where
+  pub mask_turned : (g : ℕ) → marked after size g ≡ turn (marked bytes size) from end on g
   mask_turned g = ap (λ b. ltb g size && b) (turns g) ∙ (grind (arith, nat_tests))
 
   -- with its new count the mask is as calls leave it

@@ -1,8 +1,8 @@
 -- Counting a set over stretches.
-use Rattle.std.proofs.Common.{◌≡◌, ℕ, zero, suc, ◌+◌, ◌-◌, ◌<◌, ◌≤◌, Bool, true, false, cond, not, ◌&&◌, leb, ltb, List, ◌∷◌, length, sym, refl, ap, ◌∙◌, arith}
+use Rattle.std.proofs.Common.{◌≡◌, ℕ, zero, suc, ◌+◌, ◌-◌, ◌<◌, ◌≤◌, Bool, true, false, cond, not, List, ◌∷◌, length, sym, refl, ap, ◌∙◌, arith}
 use Rattle.std.specs.List.{filter, range_with_len}
 use Rattle.std.proofs.lemmas.Bool.Decides.{nat_tests}
-use Rattle.backing.specs.Meaning.{tally, one, among}
+use Rattle.backing.specs.Meaning.{tally, one, turn}
 use Rattle.backing.specs.Soundness.{tally_le}
 
 pub tally_none : (s : ℕ → Bool) (a : ℕ) → tally s a 0 ≡ 0
@@ -61,7 +61,7 @@ length-filter-range s a (suc n) = omega (arith, tally_front s a n, filter_one (s
 module _ (s : ℕ → Bool) (a n size : ℕ) (fits : a + n ≤ size) where
   module _ (on : Bool) where
     abbrev after : ℕ → Bool
-    after g = cond (among a n g) on (s g)
+    after = turn s a (a + n) on
 
     before_it : (g : ℕ) → 0 ≤ g → g < 0 + a → after g ≡ s g
     before_it g l h = grind (arith, nat_tests)
@@ -86,26 +86,26 @@ module _ (s : ℕ → Bool) (a n size : ℕ) (fits : a + n ≤ size) where
     turned_tally =
         omega (arith, parts after, parts s, tally_same after s 0 a before_it, tally_same after (λ g. on) a n in_it, tally_const on a n, tally_same after s (a + n) (size - (a + n)) past_it)
 
-  pub tally_added : tally (λ g. cond (among a n g) true (s g)) 0 size ≡ tally s 0 size + tally (λ g. not (s g)) a n
+  pub tally_added : tally (turn s a (a + n) true) 0 size ≡ tally s 0 size + tally (λ g. not (s g)) a n
   tally_added = omega (arith, turned_tally true, tally_both s a n)
 
-  pub tally_removed : tally (λ g. cond (among a n g) false (s g)) 0 size + tally s a n ≡ tally s 0 size
+  pub tally_removed : tally (turn s a (a + n) false) 0 size + tally s a n ≡ tally s 0 size
   tally_removed = omega (arith, turned_tally false)
 
   -- what a stretch lacks may be added, and what it holds taken away
   pub tally_room : tally s 0 size + tally (λ g. not (s g)) a n ≤ size
-  tally_room = omega (arith, tally_added, tally_le (λ g. cond (among a n g) true (s g)) 0 size)
+  tally_room = omega (arith, tally_added, tally_le (turn s a (a + n) true) 0 size)
 
   pub tally_part : tally s a n ≤ tally s 0 size
   tally_part = omega (arith, tally_removed)
 
 -- a set of which those from low up to high were turned on or off
 module _ (s t : ℕ → Bool) (low high size : ℕ) (order : low < high) (fits : high ≤ size) where
-  as_among : (on : Bool) → ((g : ℕ) → t g ≡ cond (leb low g && ltb g high) on (s g)) → tally t 0 size ≡ tally (λ g. cond (among low (high - low) g) on (s g)) 0 size
-  as_among on turns = tally_same t (λ g. cond (among low (high - low) g) on (s g)) 0 size (λ g l h. turns g ∙ (grind (arith, nat_tests)))
+  as_turn : (on : Bool) → ((g : ℕ) → t g ≡ turn s low high on g) → tally t 0 size ≡ tally (turn s low (low + (high - low)) on) 0 size
+  as_turn on turns = tally_same t (turn s low (low + (high - low)) on) 0 size (λ g l h. turns g ∙ (grind (arith, nat_tests)))
 
-  pub turned_more : ((g : ℕ) → t g ≡ cond (leb low g && ltb g high) true (s g)) → tally t 0 size ≡ tally s 0 size + tally (λ g. not (s g)) low (high - low)
-  turned_more turns = as_among true turns ∙ tally_added s low (high - low) size (omega arith)
+  pub turned_more : ((g : ℕ) → t g ≡ turn s low high true g) → tally t 0 size ≡ tally s 0 size + tally (λ g. not (s g)) low (high - low)
+  turned_more turns = as_turn true turns ∙ tally_added s low (high - low) size (omega arith)
 
-  pub turned_fewer : ((g : ℕ) → t g ≡ cond (leb low g && ltb g high) false (s g)) → tally t 0 size + tally s low (high - low) ≡ tally s 0 size
-  turned_fewer turns = omega (arith, as_among false turns, tally_removed s low (high - low) size (omega arith))
+  pub turned_fewer : ((g : ℕ) → t g ≡ turn s low high false g) → tally t 0 size + tally s low (high - low) ≡ tally s 0 size
+  turned_fewer turns = omega (arith, as_turn false turns, tally_removed s low (high - low) size (omega arith))

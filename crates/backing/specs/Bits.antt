@@ -1,6 +1,6 @@
 -- Bits in a row of bytes: bit g is bit g mod 8 of byte g / 8.
-use Rattle.std.specs.Prelude.{◌≡◌, ℕ, ◌+◌, ◌*◌, ◌/◌, ◌%◌, ◌^◌, ◌<◌, ◌≤◌, Bool, false, ◌&&◌, if◌then◌else◌, List, length, ◌==◌, nat_le, nat_lt, slice_index}
-use Rattle.backing.specs.Meaning.{tally, most_granules}
+use Rattle.std.specs.Prelude.{◌≡◌, ℕ, ◌+◌, ◌*◌, ◌/◌, ◌%◌, ◌^◌, ◌<◌, ◌≤◌, Bool, false, ◌&&◌, List, length, ◌==◌, nat_lt, slice_index}
+use Rattle.backing.specs.Meaning.{in_span, tally, most_granules}
 
 -- bit k of a byte
 abbrev pub bit_of : ℕ → ℕ → Bool
@@ -13,14 +13,6 @@ bit_at bytes g = bit_of (slice_index bytes (g / 8)) (g % 8)
 -- how many bytes hold so many bits
 abbrev pub bytes_for : ℕ → ℕ
 bytes_for bits = (bits + 7) / 8
-
--- a place lies from first up to end
-abbrev pub in_span : ℕ → ℕ → ℕ → Bool
-in_span first end g = nat_le first g && nat_lt g end
-
--- each bit from first up to end is turned on, or each one off, and no other
-abbrev pub TurnsBits : List ℕ → List ℕ → ℕ → ℕ → Bool → Type 0
-TurnsBits old new first end on = (g : ℕ) → bit_at new g ≡ (if in_span first end g then on else bit_at old g)
 
 -- a byte's bits are those of byte k that lie from first up to end
 abbrev pub IsPart : ℕ → ℕ → ℕ → ℕ → Type 0

@@ -40,16 +40,24 @@ inside size first n = nat_le 1 n && nat_le (first + n) size
 abbrev pub affordable : Meaning → ℕ → ℕ → Bool
 affordable m first n = nat_le (count m + missing m first n) m.allowance
 
+-- granule g lies from first up to end
+abbrev pub in_span : ℕ → ℕ → ℕ → Bool
+in_span first end g = nat_le first g && nat_lt g end
+
 -- granule g is one of the n from first on
 abbrev pub among : ℕ → ℕ → ℕ → Bool
-among first n g = nat_le first g && nat_lt g (first + n)
+among first n g = in_span first (first + n) g
+
+-- a set with each granule from first up to end in it, or each one out of it
+abbrev pub turn : (ℕ → Bool) → ℕ → ℕ → Bool → ℕ → Bool
+turn set first end on g = if in_span first end g then on else set g
 
 -- the same backing with each granule of a stretch committed, or each one not
 abbrev pub turned : Meaning → ℕ → ℕ → Bool → Meaning
 turned m first n on = record {
   size = m.size;
   allowance = m.allowance;
-  held = λ g. if among first n g then on else m.held g;
+  held = turn m.held first (first + n) on;
 }
 
 -- a backing after a commit: a refused one leaves it as it was

@@ -1,7 +1,7 @@
 // Bits in a row of bytes, worked on a byte at a time.
 ghost use Rattle.std.specs.Prelude.{◌≡◌, ℕ, ◌+◌, ◌-◌, ◌*◌, ◌<◌, ◌≤◌, true, false, length, drop, slice_index};
-ghost use Rattle.backing.specs.Bits.{bit_at, bytes_for, IsPart, TurnsBits, ChangesByte};
-ghost use Rattle.backing.specs.Meaning.{tally};
+ghost use Rattle.backing.specs.Bits.{bit_at, bytes_for, IsPart, ChangesByte};
+ghost use Rattle.backing.specs.Meaning.{tally, turn};
 
 use crate::stretches::Span;
 
@@ -27,7 +27,7 @@ fn part(span: Span, k: u32) -> u8
 // Sets each bit of a span.
 pub(crate) fn set(bytes: &mut [u8], span: Span)
     requires { span.end ≤ 8 * length bytes.old }
-    ensures bits { TurnsBits bytes.old bytes.new span.first span.end true }
+    ensures bits { (g : ℕ) → bit_at bytes.new g ≡ turn (bit_at bytes.old) span.first span.end true g }
     ensures rest { (k : ℕ) → bytes_for span.end ≤ k → drop k bytes.new ≡ drop k bytes.old }
 {
     change(bytes, span, |byte, bits| byte | bits);
@@ -36,7 +36,7 @@ pub(crate) fn set(bytes: &mut [u8], span: Span)
 // Clears each bit of a span.
 pub(crate) fn clear(bytes: &mut [u8], span: Span)
     requires { span.end ≤ 8 * length bytes.old }
-    ensures bits { TurnsBits bytes.old bytes.new span.first span.end false }
+    ensures bits { (g : ℕ) → bit_at bytes.new g ≡ turn (bit_at bytes.old) span.first span.end false g }
     ensures rest { (k : ℕ) → bytes_for span.end ≤ k → drop k bytes.new ≡ drop k bytes.old }
 {
     change(bytes, span, |byte, bits| byte & !bits);

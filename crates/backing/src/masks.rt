@@ -82,7 +82,7 @@ impl Backing for Mask<'_> {
         granule < self.size && bits::is_set(self.bytes, granule)
     }
 
-    #[tactic(auto, using(crate::specs::Soundness::tally_le), unfolding(crate::specs::Meaning::commit_after, crate::specs::Replies::commit_reply))]
+    #[tactic(auto, using(crate::specs::Soundness::tally_le, crate::proofs::Lawful::all_affordable), unfolding(crate::specs::Meaning::commit_after, crate::specs::Replies::commit_reply))]
     fn commit(&mut self, stretch: Stretch) -> Result<u32, Refusal> {
         let span = stretch.within(self.size)?;
         let added = span.count() - self.present(span);

@@ -1,10 +1,10 @@
 -- What a stretch reaches among the runs.
-use Rattle.std.proofs.Common.{◌≡◌, ℕ, zero, suc, ◌+◌, ◌-◌, ◌<◌, ◌≤◌, min, max, true, false, ◌&&◌, ◌||◌, ltb, leb, List, length, get_or, take, drop, sym, refl, ap, ◌∙◌, subst, ⊎_elim, arith}
+use Rattle.std.proofs.Common.{◌≡◌, ℕ, zero, suc, ◌+◌, ◌-◌, ◌<◌, ◌≤◌, min, max, true, false, ◌||◌, List, length, get_or, take, drop, sym, refl, ap, ◌∙◌, subst, ⊎_elim, arith}
 use mathlib.Core.Bool.{or-false}
 use Rattle.std.proofs.lemmas.List.{drop_more, drop_all}
 use Rattle.std.proofs.lemmas.Bool.{both_ways, cases_lt}
 use Rattle.std.proofs.lemmas.Bool.Decides.{nat_tests}
-use Rattle.backing.specs.Meaning.{tally, most_granules}
+use Rattle.backing.specs.Meaning.{in_span, tally, most_granules}
 use Rattle.backing.specs.Soundness.{tally_le}
 use Rattle.backing.proofs.Tallies.{tally_same, tally_const}
 use Rattle.runs.specs.declared.rows.Run.{Run}
@@ -22,7 +22,7 @@ pub record Seen (rs : List Run) (first end k at low high held : ℕ) : Type 0 wh
   pub before : Apart 0 low (take at rs)
   pub met : at < k → first < next 0 (take k rs)
   pub bound : high < max (end + 1) (next 0 (take k rs))
-  pub joined : (g : ℕ) → ((leb first g && ltb g end) || in_runs (take k rs) g) ≡ ((leb low g && ltb g high) || in_runs (take at rs) g)
+  pub joined : (g : ℕ) → (in_span first end g || in_runs (take k rs) g) ≡ (in_span low high g || in_runs (take at rs) g)
   pub counted : held ≡ tally (in_runs (take k rs)) first (end - first)
 
 pub seen_same : (rs : List Run) (first end k k' at at' low high held : ℕ) → k ≡ k' → at ≡ at' → Seen rs first end k at low high held → Seen rs first end k' at' low high held
@@ -118,7 +118,7 @@ module _ (rs : List Run) (p : Apart 0 (most_granules + 1) rs) (first end : ℕ) 
           met = λ l. omega arith;
           bound = omega (arith, seen.bound, at_k.low);
           joined = λ g.
-              let wider : ((leb low g && ltb g high) || covers run g) ≡ (leb l g && ltb g h) = grind (arith, nat_tests, seen.from, seen.to) in
+              let wider : (in_span low high g || covers run g) ≡ in_span l h g = grind (arith, nat_tests, seen.from, seen.to) in
               let more = at_k.in_more g in
               let joined = seen.joined g in
               grind (arith, nat_tests);

@@ -1,7 +1,8 @@
 -- The runs after a stretch was committed or released.
-use Rattle.std.proofs.Common.{◌≡◌, ℕ, ◌+◌, ◌<◌, ◌≤◌, Bool, true, false, cond, ◌&&◌, ◌||◌, ltb, leb, List, [], ◌∷◌, ◌++◌, length, take, drop, ap, ◌∙◌, arith}
+use Rattle.std.proofs.Common.{◌≡◌, ℕ, ◌+◌, ◌<◌, ◌≤◌, Bool, true, false, ◌||◌, ltb, List, [], ◌∷◌, ◌++◌, length, take, drop, ap, ◌∙◌, arith}
 use Rattle.std.proofs.lemmas.Bool.{cond_both, ltb-true, ltb-false}
 use Rattle.std.proofs.lemmas.Bool.Decides.{nat_tests}
+use Rattle.backing.specs.Meaning.{in_span, turn}
 use Rattle.runs.specs.declared.rows.Run.{Run}
 use Rattle.runs.specs.declared.rows.Reach.{Reach}
 use Rattle.runs.specs.Rows.{Apart, in_runs, covers, row, rows, records_for}
@@ -20,16 +21,16 @@ rows_apart a low high b l m h =
     (λ t. let some = ltb-true low high t in apart_one a b (row low high) l (omega arith) (omega arith))
     (λ t. apart_none a b m)
 
-in_rows : (low high g : ℕ) → in_runs (rows low high) g ≡ (leb low g && ltb g high)
+in_rows : (low high g : ℕ) → in_runs (rows low high) g ≡ in_span low high g
 in_rows low high g =
-    cond_both (ltb low high) (row low high ∷ []) [] (λ xs. in_runs xs g ≡ (leb low g && ltb g high))
+    cond_both (ltb low high) (row low high ∷ []) [] (λ xs. in_runs xs g ≡ in_span low high g)
     (λ t. let some = ltb-true low high t in in_one (row low high) g ∙ (grind (arith, nat_tests)))
     (λ t. let none = ltb-false low high t in in_none g ∙ (grind (arith, nat_tests)))
 
 -- runs that mean others with a stretch turned on or off
 pub record Turned (size : ℕ) (was is : List Run) (first end : ℕ) (on : Bool) : Type 0 where
   pub apart : Apart 0 (size + 1) is
-  pub held : (g : ℕ) → in_runs is g ≡ cond (leb first g && ltb g end) on (in_runs was g)
+  pub held : (g : ℕ) → in_runs is g ≡ turn (in_runs was) first end on g
 
 module _ (size : ℕ) (rs : List Run) (p : Apart 0 (size + 1) rs) (first end : ℕ) (some : first < end) (fits : end ≤ size) (s : Reach) (q : Reaches rs first end s) where
   abbrev before : List Run
@@ -63,12 +64,12 @@ module _ (size : ℕ) (rs : List Run) (p : Apart 0 (size + 1) rs) (first end : �
   -- each granule, by where it lies
   module _ (g : ℕ) where
     abbrev reached : Bool
-    reached = leb s.low g && ltb g s.high
+    reached = in_span s.low s.high g
 
     whole : in_runs rs g ≡ (in_runs (take s.past rs) g || in_runs past g)
     whole = in_parts rs (size + 1) p s.past g
 
-    merged_held : in_runs (merged rs s) g ≡ cond (leb first g && ltb g end) true (in_runs rs g)
+    merged_held : in_runs (merged rs s) g ≡ turn (in_runs rs) first end true g
     merged_held =
         let some-row = reach_some in
         let covered : covers (row s.low s.high) g ≡ reached = grind (arith, nat_tests) in
@@ -79,28 +80,28 @@ module _ (size : ℕ) (rs : List Run) (p : Apart 0 (size + 1) rs) (first end : �
         ∙ (grind (arith, nat_tests))
 
     abbrev sides : Bool
-    sides = (leb s.low g && ltb g first) || (leb end g && ltb g s.high)
+    sides = in_span s.low first g || in_span end s.high g
 
     parted_is : in_runs (parted rs s first end) g ≡ (in_runs before g || (sides || in_runs past g))
     parted_is =
         in_append before ((rows s.low first ++ rows end s.high) ++ past) g
         ∙ ap (λ b. in_runs before g || b) (in_append (rows s.low first ++ rows end s.high) past g
         ∙ ap (λ b. b || in_runs past g) (in_append (rows s.low first) (rows end s.high) g
-        ∙ ap (λ b. b || in_runs (rows end s.high) g) (in_rows s.low first g) ∙ ap (λ b. (leb s.low g && ltb g first) || b) (in_rows end s.high g)))
+        ∙ ap (λ b. b || in_runs (rows end s.high) g) (in_rows s.low first g) ∙ ap (λ b. in_span s.low first g || b) (in_rows end s.high g)))
 
-    none_left : (leb first g && ltb g end) ≡ true → (in_runs before g || (sides || in_runs past g)) ≡ false
+    none_left : in_span first end g ≡ true → (in_runs before g || (sides || in_runs past g)) ≡ false
     none_left t =
         let left = none_above 0 s.low before g q.before in
         let right = none_below (s.high + 1) (size + 1) past g past_apart in
         grind (arith, nat_tests, left, right, q.from, q.to)
 
-    as_before : (leb first g && ltb g end) ≡ false → (in_runs before g || (sides || in_runs past g)) ≡ in_runs rs g
+    as_before : in_span first end g ≡ false → (in_runs before g || (sides || in_runs past g)) ≡ in_runs rs g
     as_before t =
         let joined = q.joined g in
         let all = whole in
         grind (arith, nat_tests, q.from, q.to)
 
-    parted_held : in_runs (parted rs s first end) g ≡ cond (leb first g && ltb g end) false (in_runs rs g)
+    parted_held : in_runs (parted rs s first end) g ≡ turn (in_runs rs) first end false g
     parted_held = let is = parted_is in grind (arith, none_left, as_before)
 
   pub merging : Turned size rs (merged rs s) first end true

@@ -1,6 +1,6 @@
 -- What a stretch of granules, from first up to end, reaches among the runs.
-use Rattle.std.specs.Prelude.{◌≡◌, ℕ, ◌+◌, ◌-◌, ◌<◌, ◌≤◌, ◌&&◌, ◌||◌, List, [], ◌∷◌, ◌++◌, length, take, drop, nat_le, nat_lt}
-use Rattle.backing.specs.Meaning.{tally}
+use Rattle.std.specs.Prelude.{◌≡◌, ℕ, ◌+◌, ◌-◌, ◌<◌, ◌≤◌, ◌||◌, List, [], ◌∷◌, ◌++◌, length, take, drop}
+use Rattle.backing.specs.Meaning.{in_span, tally}
 use Rattle.runs.specs.declared.rows.Run.{Run}
 use Rattle.runs.specs.declared.rows.Reach.{Reach}
 use Rattle.runs.specs.Rows.{Apart, in_runs, row, rows, spliced}
@@ -13,7 +13,7 @@ pub record Reaches (runs : List Run) (first end : ℕ) (is : Reach) : Type 0 whe
   pub to : end ≤ is.high
   pub before : Apart 0 is.low (take is.at runs)
   pub after : (bound : ℕ) → Apart 0 bound runs → end < bound → Apart (is.high + 1) bound (drop is.past runs)
-  pub joined : (g : ℕ) → ((nat_le first g && nat_lt g end) || in_runs (take is.past runs) g) ≡ ((nat_le is.low g && nat_lt g is.high) || in_runs (take is.at runs) g)
+  pub joined : (g : ℕ) → (in_span first end g || in_runs (take is.past runs) g) ≡ (in_span is.low is.high g || in_runs (take is.at runs) g)
   pub counted : is.held ≡ tally (in_runs runs) first (end - first)
 
 -- the runs with those reached joined into one

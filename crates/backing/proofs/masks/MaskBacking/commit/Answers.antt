@@ -2,7 +2,6 @@ use Rattle.std.proofs.Common.{◌≤◌, true, arith}
 use Rattle.std.proofs.lemmas.Bool.Decides.{nat_tests}
 use Rattle.backing.specs.Bits.{marked}
 use Rattle.backing.specs.Masks.{mask_means}
-use Rattle.backing.specs.Meaning.{commit_after}
 use Rattle.backing.specs.Replies.{commit_reply}
 use Rattle.backing.proofs.Marks.{mask_turned, mask_still}
 use Rattle.backing.proofs.Tallies.{tally_both, tally_room, turned_more}
@@ -20,11 +19,5 @@ invariant_of-self c =
 pub returns-clause-answer : goal.returns-clause-answer
 unfolding commit_reply
 returns-clause-answer c =
-    let room = tally_room (mask_means c.args.self.now).held c.args.stretch.first c.args.stretch.count c.args.self.now.size in
-    grind (arith, nat_tests, tally_both, room)
-
-pub returns-clause-after : goal.returns-clause-after
-unfolding commit_after
-returns-clause-after c =
     let room = tally_room (mask_means c.args.self.now).held c.args.stretch.first c.args.stretch.count c.args.self.now.size in
     grind (arith, nat_tests, tally_both, room)
