@@ -7,7 +7,7 @@ mod session;
 use anyhow::bail;
 use session::Session;
 use std::env;
-use std::io::{BufReader, Input};
+use std::io::Input;
 
 const HELP: &str =
     "granules: commits and releases granules of a backing, by requests on standard input, one a line.
@@ -26,10 +26,7 @@ fn main(rt: HostRuntime) -> anyhow::Result<()> {
     let mut words = env::args(&rt)?;
     let _program = words.next();
     match words.next() {
-        None => {
-            let reader = BufReader::new(rt.alloc(), rt.reader())?;
-            Session::new(&rt, reader, rt.alloc()).converse()
-        }
+        None => Session::new(&rt, rt.reader(), rt.alloc()).converse(),
         Some(word) if word.as_str() == "--help" => Ok(println!(rt; "{HELP}")?),
         Some(_) => bail!("granules takes no argument but --help"),
     }
