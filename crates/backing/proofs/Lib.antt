@@ -4,3 +4,4 @@ pub mod Tallies
 pub mod Bytes
 pub mod Marks
 pub mod Lawful
+pub mod Limiting

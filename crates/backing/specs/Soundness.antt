@@ -5,9 +5,9 @@ use Rattle.std.proofs.lemmas.Bool.{and_left, le-ltb}
 use Rattle.backing.specs.declared.limits.Limiter.{Limiter}
 use Rattle.backing.specs.declared.masks.Mask.{Mask}
 use Rattle.backing.specs.Bits.{bit_at, marked}
-use Rattle.backing.specs.Limits.{limiter_means}
+use Rattle.backing.specs.Limits.{limit_of, limiter_means}
 use Rattle.backing.specs.Masks.{mask_means}
-use Rattle.backing.specs.Meaning.{Sound, one, tally}
+use Rattle.backing.specs.Meaning.{Meaning, Sound, count, one, tally}
 
 one_le : (b : Bool) → one b ≤ 1
 one_le true = omega arith
@@ -27,13 +27,15 @@ mask_sound m = record {
   none_past = λ g past. and_left (nat_lt g m.size) (bit_at m.bytes.now g) (le-ltb g m.size past);
 }
 
-pub limiter_sound : {B : Type 0} {b : _} → (l : Limiter B b) → Sound (limiter_means l)
-limiter_sound {b = b} l =
-    let s = b.sound l.below in
-    record {
-      some = s.some;
-      bounded = s.bounded;
-      allowed = omega arith;
-      within = omega (arith, l.kept_to);
-      none_past = s.none_past;
-    }
+-- no more is committed than a limiter's limit
+pub kept_to : {B : Type 0} (means : B → Meaning) (l : Limiter B) → count (means l.below) ≤ limit_of means l
+kept_to means l = omega arith
+
+pub limiter_sound : {B : Type 0} (means : B → Meaning) (l : Limiter B) → Sound (means l.below) → Sound (limiter_means means l)
+limiter_sound means l s = record {
+  some = s.some;
+  bounded = s.bounded;
+  allowed = omega arith;
+  within = omega (arith, kept_to means l, s.within);
+  none_past = s.none_past;
+}

@@ -1,55 +1,63 @@
 // A backing that allows no more than its limit of the backing below it.
-ghost use Rattle.std.specs.Prelude.{◌≤◌};
-ghost use Rattle.backing.specs.Meaning.{count};
+ghost use Rattle.std.specs.Prelude.{◌≡◌, ◌+◌, ◌≤◌, min, IfOk, IfErr, OnErr, MatchResult};
+ghost use Rattle.backing.specs.Meaning.{count, missing, commit_after};
+ghost use Rattle.backing.specs.Replies.{told, commit_reply};
+ghost use Rattle.backing.specs.Makings.{making, limiter_making};
+ghost use Rattle.backing.specs.Limits.{limit_of, limiter_means};
+ghost use Rattle.backing.specs.Soundness.{limiter_sound};
 
 use crate::interface::Backing;
 use crate::refusals::{Refusal, Refused};
 use crate::stretches::Stretch;
 
+// It keeps what the limit leaves, and not the limit: so no more than the limit can be committed, whatever stands below.
 #[derive(Debug, Drop)]
-pub struct Limiter<B: Backing> {
+pub struct Limiter<B> {
     below: B,
-    limit: u32,
-    ghost kept_to: { count (B.means below) ≤ limit },
+    // How many more granules the limit allows.
+    left: u32,
 }
 
 impl<B: Backing> Limiter<B> {
-    ghost use Rattle.std.specs.Prelude.{◌≡◌, ◌+◌, IfOk, IfErr, OnErr, MatchResult};
-    ghost use Rattle.backing.specs.Meaning.{missing, commit_after};
-    ghost use Rattle.backing.specs.Replies.{told, commit_reply};
-    ghost use Rattle.backing.specs.Makings.{making, limiter_making};
-    ghost use Rattle.backing.specs.Limits.{limiter_means};
-
     /// A limiter on top of a backing that has no more committed than the limit.
     pub fn new(below: B, limit: u32) -> Result<Limiter<B>, Refused<B>>
-        ensures answer { making limiter_means result ≡ limiter_making limit (B.Backing.means below) }
-        ensures holds { MatchResult result (λ l. (l.below ≡ below) × (l.limit ≡ limit)) (λ e. e.back ≡ below) }
+        ensures answer { making (limiter_means B.Backing.means) result ≡ limiter_making limit (B.Backing.means below) }
+        ensures holds { MatchResult result (λ l. (l.below ≡ below) × (limit_of B.Backing.means l ≡ limit)) (λ e. e.back ≡ below) }
     {
-        if limit < below.count() {
+        let count = below.count();
+        if limit < count {
             return Err(Refused {
                 why: Refusal::LimitBelowCount,
                 back: below,
             });
         }
-        Ok(Limiter { below, limit })
+        let left = limit - count;
+        Ok(Limiter { below, left })
     }
 
     /// The backing below, with the limit taken off.
     pub fn into_below(self) -> B
         ensures { result ≡ self.below }
     {
-        let Limiter { below, limit: _ } = self;
+        let Limiter { below, left: _ } = self;
         below
+    }
+
+    // The limit. It fits, but the type does not say so.
+    fn limit(&self) -> u32
+        ensures { result ≡ min (limit_of B.Backing.means self.now) 4294967295 }
+    {
+        self.count().saturating_add(self.left)
     }
 
     // Refuses a commit that the limit alone stands against.
     #[tactic(auto, using(crate::specs::Soundness::tally_le), unfolding(crate::specs::Meaning::commit_after, crate::specs::Replies::commit_reply, crate::specs::Replies::missing_reply))]
     fn check_limit(&self, stretch: Stretch) -> Result<(), Refusal>
-        ensures fits { IfOk result (λ _. count (B.Backing.means self.now.below) + missing (B.Backing.means self.now.below) stretch.first stretch.count ≤ self.now.limit) }
-        ensures answer { IfErr result (λ e. told e ≡ commit_reply (limiter_means self.now) stretch.first stretch.count) }
-        ensures stays { OnErr result (limiter_means self.now ≡ commit_after (limiter_means self.now) stretch.first stretch.count) }
+        ensures fits { IfOk result (λ _. count (B.Backing.means self.now.below) + missing (B.Backing.means self.now.below) stretch.first stretch.count ≤ limit_of B.Backing.means self.now) }
+        ensures answer { IfErr result (λ e. told e ≡ commit_reply (limiter_means B.Backing.means self.now) stretch.first stretch.count) }
+        ensures stays { OnErr result (limiter_means B.Backing.means self.now ≡ commit_after (limiter_means B.Backing.means self.now) stretch.first stretch.count) }
     {
-        let left = self.limit - self.count();
+        let left = self.left;
         if stretch.count > left {
             let wanted = self.missing(stretch)?;
             if wanted > left {
@@ -62,12 +70,9 @@ impl<B: Backing> Limiter<B> {
 }
 
 impl<B: Backing> Backing for Limiter<B> {
-    ghost use Rattle.backing.specs.Limits.{limiter_means};
-    ghost use Rattle.backing.specs.Soundness.{limiter_sound};
+    ghost means = { limiter_means B.Backing.means };
 
-    ghost means = { limiter_means };
-
-    ghost sound = { limiter_sound };
+    ghost sound = { λ l. limiter_sound B.Backing.means l (B.Backing.sound l.below) };
 
     ghost Spare = { B.Backing.Spare };
 
@@ -78,7 +83,7 @@ impl<B: Backing> Backing for Limiter<B> {
     }
 
     fn allowance(&self) -> u32 {
-        self.limit.min(self.below.allowance())
+        self.limit().min(self.below.allowance())
     }
 
     fn count(&self) -> u32 {
@@ -92,12 +97,16 @@ impl<B: Backing> Backing for Limiter<B> {
     #[tactic(auto, using(crate::proofs::Lawful::commit_adds), unfolding(crate::specs::Meaning::commit_after, crate::specs::Replies::commit_reply))]
     fn commit(&mut self, stretch: Stretch) -> Result<u32, Refusal> {
         self.check_limit(stretch)?;
-        self.below.commit(stretch)
+        let added = self.below.commit(stretch)?;
+        self.left -= added;
+        Ok(added)
     }
 
     #[tactic(auto, using(crate::proofs::Lawful::release_fewer), unfolding(crate::specs::Meaning::release_after, crate::specs::Replies::release_reply))]
     fn release(&mut self, stretch: Stretch) -> Result<u32, Refusal> {
-        self.below.release(stretch)
+        let removed = self.below.release(stretch)?;
+        self.left = self.left.saturating_add(removed);
+        Ok(removed)
     }
 
     #[tactic(auto, unfolding(crate::specs::Replies::missing_reply))]

@@ -13,7 +13,7 @@ pub struct Mask<'a> {
     bytes: &'a mut [u8],
     size: u32,
     count: u32,
-    ghost ok: { MaskOk bytes.now size count },
+    pub ghost ok: { MaskOk bytes.now size count },
 }
 
 impl<'a> Mask<'a> {

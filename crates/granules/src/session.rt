@@ -31,7 +31,7 @@ impl<'a, P: Print, R: BufRead> Session<'a, P, R> {
     }
 
     /// From the mask to the end of the input.
-    pub fn converse(&mut self) -> anyhow::Result<()> {
+    pub(crate) fn converse(&mut self) -> anyhow::Result<()> {
         let Some(granules) = self.first_mask()? else {
             return Ok(());
         };
@@ -107,7 +107,7 @@ impl<'a, P: Print, R: BufRead> Session<'a, P, R> {
         &mut self,
         mut backing: B,
     ) -> anyhow::Result<Option<Limiter<B>>>
-        ensures asked { IfOk result (λ o. IfSome o (λ l. Spells (line_of self.new.lines) (Request.Limit (limit_of l)))) }
+        ensures asked { IfOk result (λ o. IfSome o (λ l. Spells (line_of self.new.lines) (Request.Limit (limit_of B.Backing.means l)))) }
     {
         while let Some(limit) = self.until_limit(&mut backing)? {
             match Limiter::new(backing, limit) {

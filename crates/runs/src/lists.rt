@@ -13,7 +13,7 @@ pub struct RunList<'a> {
     rows: LentVec<'a, Run>,
     size: u32,
     count: u32,
-    ghost ok: { RunListOk rows.places.now rows.len size count },
+    pub ghost ok: { RunListOk rows.places.now rows.len size count },
 }
 
 impl<'a> RunList<'a> {

@@ -1,0 +1,39 @@
+-- A limit over a backing's meaning, as calls leave it.
+use Rattle.std.proofs.Common.{◌≡◌, ℕ, ◌+◌, ◌-◌, ◌≤◌, min, sym, ap, ◌∙◌, arith}
+use Rattle.std.proofs.lemmas.Bool.Decides.{nat_tests}
+use Rattle.backing.specs.Meaning.{Meaning, Sound, count, missing, limited, commit_after, release_after}
+use Rattle.backing.specs.Replies.{accepted, commit_reply, release_reply}
+use Rattle.backing.proofs.Lawful.{commit_counted, release_counted}
+
+-- where the limit does not stand in the way, a commit is as below
+limited_committed : (limit : ℕ) (m : Meaning) (first n : ℕ) → count m + missing m first n ≤ limit → limited limit (commit_after m first n) ≡ commit_after (limited limit m) first n
+unfolding commit_after
+limited_committed limit m first n under = grind (arith, nat_tests)
+
+limited_released : (limit : ℕ) (m : Meaning) (first n : ℕ) → limited limit (release_after m first n) ≡ release_after (limited limit m) first n
+unfolding release_after
+limited_released limit m first n = grind (arith, nat_tests)
+
+kept_allowance : (m : Meaning) (first n : ℕ) → (release_after m first n).allowance ≡ m.allowance
+unfolding release_after
+kept_allowance m first n = grind (arith, nat_tests)
+
+-- the limit stays where what it leaves goes down by what was added, and up by what was removed
+pub left_committed : (m : Meaning) (left first n k : ℕ) → accepted k ≡ commit_reply m first n → count m + missing m first n ≤ count m + left
+    → limited (count (commit_after m first n) + (left - k)) (commit_after m first n) ≡ commit_after (limited (count m + left) m) first n
+unfolding commit_reply
+left_committed m left first n k e under =
+    let is : k ≡ missing m first n = grind (arith, nat_tests) in
+    let same : count (commit_after m first n) + (left - k) ≡ count m + left = omega (arith, commit_counted m first n k (sym e), is, under) in
+    ap (λ limit. limited limit (commit_after m first n)) same ∙ limited_committed (count m + left) m first n under
+
+-- only what a limit allows of the backing below counts
+same_limit : (x y : ℕ) (m : Meaning) → min x m.allowance ≡ min y m.allowance → limited x m ≡ limited y m
+same_limit x y m e = ap (λ a. record { size = m.size; allowance = a; held = m.held }) e
+
+pub left_released : (m : Meaning) → Sound m → (left first n k sum : ℕ) → accepted k ≡ release_reply m first n → sum ≡ min (left + k) 4294967295
+    → limited (count (release_after m first n) + sum) (release_after m first n) ≡ release_after (limited (count m + left) m) first n
+left_released m s left first n k sum e is =
+    let same : min (count (release_after m first n) + sum) (release_after m first n).allowance ≡ min (count m + left) (release_after m first n).allowance =
+    omega (arith, release_counted m first n k (sym e), is, kept_allowance m first n, s.allowed, s.bounded) in
+    same_limit _ _ (release_after m first n) same ∙ limited_released (count m + left) m first n
