@@ -18,22 +18,22 @@ kept_allowance : (m : Meaning) (first n : ℕ) → (release_after m first n).all
 unfolding release_after
 kept_allowance m first n = grind (arith, nat_tests)
 
--- the limit stays where what it leaves goes down by what was added, and up by what was removed
-pub left_committed : (m : Meaning) (left first n k : ℕ) → accepted k ≡ commit_reply m first n → count m + missing m first n ≤ count m + left
-    → limited (count (commit_after m first n) + (left - k)) (commit_after m first n) ≡ commit_after (limited (count m + left) m) first n
-unfolding commit_reply
-left_committed m left first n k e under =
-    let is : k ≡ missing m first n = grind (arith, nat_tests) in
-    let same : count (commit_after m first n) + (left - k) ≡ count m + left = omega (arith, commit_counted m first n k (sym e), is, under) in
-    ap (λ limit. limited limit (commit_after m first n)) same ∙ limited_committed (count m + left) m first n under
-
 -- only what a limit allows of the backing below counts
 same_limit : (x y : ℕ) (m : Meaning) → min x m.allowance ≡ min y m.allowance → limited x m ≡ limited y m
 same_limit x y m e = ap (λ a. record { size = m.size; allowance = a; held = m.held }) e
 
-pub left_released : (m : Meaning) → Sound m → (left first n k sum : ℕ) → accepted k ≡ release_reply m first n → sum ≡ min (left + k) 4294967295
-    → limited (count (release_after m first n) + sum) (release_after m first n) ≡ release_after (limited (count m + left) m) first n
-left_released m s left first n k sum e is =
+-- the limit stays where what it leaves goes down by what was added, and up by what was removed
+pub left_committed : (m after : Meaning) (left first n k : ℕ) → after ≡ commit_after m first n → accepted k ≡ commit_reply m first n → count m + missing m first n ≤ count m + left
+    → limited (count after + (left - k)) after ≡ commit_after (limited (count m + left) m) first n
+unfolding commit_reply
+left_committed m after left first n k is e under =
+    let all : k ≡ missing m first n = grind (arith, nat_tests) in
+    let same : count (commit_after m first n) + (left - k) ≡ count m + left = omega (arith, commit_counted m first n k (sym e), all, under) in
+    ap (λ x. limited (count x + (left - k)) x) is ∙ ap (λ limit. limited limit (commit_after m first n)) same ∙ limited_committed (count m + left) m first n under
+
+pub left_released : (m after : Meaning) (left first n k sum : ℕ) → Sound m → after ≡ release_after m first n → accepted k ≡ release_reply m first n → sum ≡ min (left + k) 4294967295
+    → limited (count after + sum) after ≡ release_after (limited (count m + left) m) first n
+left_released m after left first n k sum s is e adds =
     let same : min (count (release_after m first n) + sum) (release_after m first n).allowance ≡ min (count m + left) (release_after m first n).allowance =
-    omega (arith, release_counted m first n k (sym e), is, kept_allowance m first n, s.allowed, s.bounded) in
-    same_limit _ _ (release_after m first n) same ∙ limited_released (count m + left) m first n
+    omega (arith, release_counted m first n k (sym e), adds, kept_allowance m first n, s.allowed, s.bounded) in
+    ap (λ x. limited (count x + sum) x) is ∙ same_limit _ _ (release_after m first n) same ∙ limited_released (count m + left) m first n

@@ -94,7 +94,7 @@ impl<B: Backing> Backing for Limiter<B> {
         self.below.held(granule)
     }
 
-    #[tactic(auto, using(crate::proofs::Lawful::commit_adds), unfolding(crate::specs::Meaning::commit_after, crate::specs::Replies::commit_reply))]
+    #[tactic(auto, using(crate::proofs::Limiting::left_committed), unfolding(crate::specs::Meaning::commit_after, crate::specs::Replies::commit_reply))]
     fn commit(&mut self, stretch: Stretch) -> Result<u32, Refusal> {
         self.check_limit(stretch)?;
         let added = self.below.commit(stretch)?;
@@ -102,7 +102,7 @@ impl<B: Backing> Backing for Limiter<B> {
         Ok(added)
     }
 
-    #[tactic(auto, using(crate::proofs::Lawful::release_fewer), unfolding(crate::specs::Meaning::release_after, crate::specs::Replies::release_reply))]
+    #[tactic(auto, unfolding(crate::specs::Meaning::release_after, crate::specs::Replies::release_reply))]
     fn release(&mut self, stretch: Stretch) -> Result<u32, Refusal> {
         let removed = self.below.release(stretch)?;
         self.left = self.left.saturating_add(removed);
