@@ -112,7 +112,7 @@ ones_test : agree_below (λ b. eqb (ones b) (tally (bit_of b) 0 8)) (λ _. true)
 unfolding ones tally
 ones_test = refl
 
-ones_tally : (b : ℕ) → b < 256 → ones b ≡ tally (bit_of b) 0 8
+pub ones_tally : (b : ℕ) → b < 256 → ones b ≡ tally (bit_of b) 0 8
 ones_tally b h = eqb-true _ _ (agree_below_at (λ b. eqb (ones b) (tally (bit_of b) 0 8)) (λ _. true) 256 b ones_test h)
 
 -- a count over places that are moved

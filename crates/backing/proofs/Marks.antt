@@ -9,11 +9,11 @@ use Rattle.backing.specs.Meaning.{fresh, tally, present, turn}
 use Rattle.backing.proofs.Lent.{full}
 use Rattle.backing.proofs.Tallies.{tally_const, tally_same}
 
-bit_clear : (bytes : List ℕ) (g : ℕ) → get_or bytes (g / 8) 0 ≡ 0 → bit_at bytes g ≡ false
+pub bit_clear : (bytes : List ℕ) (g : ℕ) → get_or bytes (g / 8) 0 ≡ 0 → bit_at bytes g ≡ false
 unfolding bit_at
 bit_clear bytes g e = ap (λ x. bit_of x (g % 8)) e ∙ ap (λ x. eqb (x % 2) 1) (zero-div (2 ^ (g % 8)))
 
-marked_none : (bytes : List ℕ) (size : ℕ) → ((k : ℕ) → k < bytes_for size → get_or bytes k 0 ≡ 0) → (g : ℕ) → marked bytes size g ≡ false
+pub marked_none : (bytes : List ℕ) (size : ℕ) → ((k : ℕ) → k < bytes_for size → get_or bytes k 0 ≡ 0) → (g : ℕ) → marked bytes size g ≡ false
 marked_none bytes size z g =
     ⊎_elim
     (λ h. let clear = bit_clear bytes g (z (g / 8) (omega arith)) in grind (arith, nat_tests))

@@ -13,7 +13,7 @@ pub tally_suc : (s : ℕ → Bool) (a n : ℕ) → tally s a (suc n) ≡ tally s
 unfolding tally
 tally_suc s a n = refl
 
-tally_split : (s : ℕ → Bool) (a m n : ℕ) → tally s a (m + n) ≡ tally s a m + tally s (a + m) n
+pub tally_split : (s : ℕ → Bool) (a m n : ℕ) → tally s a (m + n) ≡ tally s a m + tally s (a + m) n
 tally_split s a m zero =
     let e : m + 0 ≡ m = omega arith in
     omega (arith, ap (tally s a) e, tally_none s (a + m))

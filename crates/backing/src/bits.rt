@@ -51,8 +51,8 @@ fn change<F: Fn(u8, u8) -> u8>(bytes: &mut [u8], span: Span, f: F)
 {
     let start = (span.first / 8) as usize;
     let end = span.end.div_ceil(8) as usize;
-    for (k, byte) in bytes[start..end].iter_mut().enumerate() {
-        *byte = f(*byte, part(span, (start + k) as u32));
+    for k in start..end {
+        bytes[k] = f(bytes[k], part(span, k as u32));
     }
 }
 
