@@ -13,6 +13,12 @@ pub tally_suc : (s : ℕ → Bool) (a n : ℕ) → tally s a (suc n) ≡ tally s
 unfolding tally
 tally_suc s a n = refl
 
+pub tally_more : (s : ℕ → Bool) (a g : ℕ) → a ≤ g → tally s a (g + 1 - a) ≡ tally s a (g - a) + one (s g)
+tally_more s a g l =
+    let e : g + 1 - a ≡ suc (g - a) = omega arith in
+    let f : a + (g - a) ≡ g = omega arith in
+    ap (tally s a) e ∙ tally_suc s a (g - a) ∙ ap (λ x. tally s a (g - a) + one (s x)) f
+
 pub tally_split : (s : ℕ → Bool) (a m n : ℕ) → tally s a (m + n) ≡ tally s a m + tally s (a + m) n
 tally_split s a m zero =
     let e : m + 0 ≡ m = omega arith in
@@ -21,6 +27,16 @@ tally_split s a m (suc n) =
     let e : m + suc n ≡ suc (m + n) = omega arith in
     let f : a + (m + n) ≡ a + m + n = omega arith in
     omega (arith, ap (tally s a) e, tally_suc s a (m + n), tally_split s a m n, tally_suc s (a + m) n, ap (λ x. one (s x)) f)
+
+-- a loop that counts those outside a set: its start, a turn of each kind, and its end
+module _ (s : ℕ → Bool) (a : ℕ) where
+  pub outside_none : (g : ℕ) → g ≡ a → 0 ≡ tally (λ x. not (s x)) a (g - a)
+  outside_none g same =
+      let e : g - a ≡ 0 = omega arith in
+      sym (ap (tally (λ x. not (s x)) a) e ∙ tally_none (λ x. not (s x)) a)
+
+  pub outside_more : (k j g : ℕ) → k ≡ tally (λ x. not (s x)) a (g - a) → a ≤ g → j ≡ k + one (not (s g)) → j ≡ tally (λ x. not (s x)) a (g + 1 - a)
+  outside_more k j g h l e = e ∙ ap (λ x. x + one (not (s g))) h ∙ sym (tally_more (λ x. not (s x)) a g l)
 
 one_not : (b : Bool) → one b + one (not b) ≡ 1
 one_not true = refl

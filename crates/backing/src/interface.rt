@@ -60,7 +60,12 @@ pub trait Backing {
         ensures { reply result ≡ missing_reply (means self.now) stretch.first stretch.count }
     {
         let span = stretch.within(self.size())?;
-        let wanted = (span.first..span.end).filter(|g| !self.held(*g)).count();
-        Ok(wanted as u32)
+        let mut wanted = 0;
+        for g in span.first..span.end {
+            if !self.held(g) {
+                wanted += 1;
+            }
+        }
+        Ok(wanted)
     }
 }

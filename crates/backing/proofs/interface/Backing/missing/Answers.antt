@@ -1,20 +1,24 @@
-use Rattle.std.proofs.Common.{◌≡◌, ℕ, ◌-◌, Bool, not, length, refl, ◌∙◌, arith, rules}
-use borrow.Author.Tests.{tests}
-use Rattle.std.proofs.lemmas.Iterator.{YieldsList-from_range}
-use Rattle.std.proofs.lemmas.Iterator.Consumers.{YieldsList-from_filter, count_from_yields_List}
-use Rattle.std.proofs.lemmas.Bool.Decides.{nat_tests}
-use Rattle.std.specs.List.{filter, range_with_len}
-use Rattle.backing.specs.Replies.{missing_reply}
-use Rattle.backing.proofs.Tallies.{length-filter-range}
+use Rattle.std.proofs.Common.{◌+◌, ◌-◌, ◌≤◌, not, sym, ap, ◌∙◌, add-zero, arith, rules}
+use Rattle.backing.specs.Meaning.{one}
+use Rattle.backing.specs.Soundness.{tally_le}
+use Rattle.backing.proofs.Tallies.{outside_none, outside_more}
 use Rattle.backing.proofs.interface.Backing.missing.Goals as goal
+use Rattle.backing.proofs.interface.Backing.missing.Goals.{then-not-held, else-not-held}
 
-pub returns : goal.returns
-unfolding missing_reply
-returns g c =
-    let lacks : ℕ → Bool = λ x. not ((g.Self.Backing.means c.args.self.now).held x) in
-    let span = c.in_ok-span.span in
-    let counted : c.count-wanted.result ≡ length (filter lacks (range_with_len span.first (span.end - span.first))) =
-    count_from_yields_List c.filter.result c.count-wanted.result c.count-wanted.ensures.ran
-    (YieldsList-from_filter _ lacks (YieldsList-from_range span.first span.end (span.end - span.first) (cc) refl) c.filter.ensures.closure (λ x r q k. search (rules, tests))) in
-    let tallied = counted ∙ length-filter-range lacks span.first (span.end - span.first) in
-    grind (arith, nat_tests)
+pub loop-g-init : goal.loop-g-init
+loop-g-init g c = outside_none (g.Self.Backing.means c.args.self.now).held c.args.stretch.first c.in_ok-span.span.first c.in_ok-span.ensures.first
+
+pub overflow_add-wanted : goal.overflow_add-wanted
+overflow_add-wanted g c =
+    let few = tally_le (λ x. not ((g.Self.Backing.means c.args.self.now).held x)) c.args.stretch.first (c.loop-g.g - c.args.stretch.first) in
+    let same = c.loop-g.invariant in
+    search rules
+
+pub loop-g-preserved : goal.loop-g-preserved
+loop-g-preserved g c =
+    let from : c.args.stretch.first ≤ c.loop-g.g = omega (arith, c.in_ok-span.ensures.first) in
+    let more = outside_more (g.Self.Backing.means c.args.self.now).held c.args.stretch.first c.loop-g.wanted c.if-not-held.wanted c.loop-g.g c.loop-g.invariant from in
+    elim c.if-not-held.branch [
+      | then-not-held w ↦ more (w.wanted-is ∙ ap (λ b. c.loop-g.wanted + one (not b)) w.if-not-held.ensures)
+      | else-not-held w ↦ more (w.wanted-is ∙ sym (add-zero _) ∙ ap (λ b. c.loop-g.wanted + one (not b)) w.if-not-held.ensures)
+    ]
