@@ -1,12 +1,12 @@
 -- Bits of a byte and of a row of bytes.
-use Rattle.std.proofs.Common.{◌≡◌, ℕ, zero, suc, ◌+◌, ◌-◌, ◌*◌, ◌/◌, ◌%◌, ◌^◌, ◌<◌, ◌≤◌, min, max, Bool, true, false, cond, not, ◌&&◌, ◌||◌, eqb, ltb, leb, List, length, get_or, sym, refl, ap, ◌∙◌, ⊎_elim, add-zero, arith}
+use Rattle.std.proofs.Common.{◌≡◌, ℕ, zero, suc, ◌+◌, ◌-◌, ◌*◌, ◌/◌, ◌%◌, ◌^◌, ◌<◌, ◌≤◌, min, max, Bool, true, false, cond, not, ◌&&◌, ◌||◌, eqb, ltb, leb, List, length, drop, get_or, set, sym, refl, ap, ◌∙◌, subst, ⊎_elim, add-zero, arith, get_or-set_other, get_or-set_same, drop-set-lt, below_more}
 use lib.Bits.{bit_and, bit_or, and_le_l, and_mask}
 use lib.Count.{ones}
 use Rattle.std.proofs.lemmas.Bool.{agree_below, agree_below_at, and_parts, both_ways, cases_Bool, cases_lt, cond-false, eqb-true, le-leb, leb-true, ltb-true}
 use Rattle.std.proofs.lemmas.Bool.Decides.{nat_tests}
 use Rattle.std.proofs.Math.Bool.{and_comm}
 use Rattle.std.proofs.lemmas.Nat.Bits.{bit_at_or, bit_at_and}
-use Rattle.backing.specs.Bits.{bit_of, bit_at, IsPart, ChangesByte}
+use Rattle.backing.specs.Bits.{bit_of, bit_at, bytes_for, IsPart, ChangesByte}
 use Rattle.backing.specs.Meaning.{in_span, turn, tally, one}
 use Rattle.backing.proofs.Tallies.{tally_none, tally_suc}
 
@@ -76,6 +76,44 @@ span_of low high o h =
 pub bit_read : (bytes : List ℕ) (g : ℕ) → eqb (bit_and (get_or bytes (g / 8) 0 / 2 ^ (g % 8)) 1) 1 ≡ bit_at bytes g
 unfolding bit_at
 bit_read bytes g = ap (λ x. eqb x 1) (and_mask (get_or bytes (g / 8) 0 / 2 ^ (g % 8)) 1)
+
+-- bytes of which those before place k are changed
+pub record Changed (change : ℕ → ℕ → ℕ → Type 0) (first end : ℕ) (old new : List ℕ) (k : ℕ) : Type 0 where
+  pub changed : (j : ℕ) → j < k → ChangesByte change first end j (get_or old j 0) (get_or new j 0)
+  pub kept : (j : ℕ) → k ≤ j → get_or new j 0 ≡ get_or old j 0
+  pub rest : (j : ℕ) → bytes_for end ≤ j → drop j new ≡ drop j old
+
+module _ (change : ℕ → ℕ → ℕ → Type 0) (first end : ℕ) (old : List ℕ) where
+  pub changed_none : (k : ℕ) → k ≤ first / 8 → Changed change first end old old k
+  changed_none k h = record {
+    changed = λ j l. record { touched = λ from to. absurd (omega arith); before = λ l. refl; past = λ l. refl };
+    kept = λ j l. refl;
+    rest = λ j l. refl;
+  }
+
+  pub changed_more : (new : List ℕ) (k at bits byte : ℕ) → Changed change first end old new k → at ≡ k → at < length new
+      → first < 8 * k + 8 → 8 * k < end → bits < 256 → IsPart first end k bits → change (get_or new at 0) bits byte → Changed change first end old (set new at byte) (k + 1)
+  changed_more new k at bits byte c here low from to small part done =
+      let was : get_or new at 0 ≡ get_or old k 0 = ap (λ i. get_or new i 0) here ∙ c.kept k (omega arith) in
+      let is : get_or (set new at byte) k 0 ≡ byte = ap (λ i. get_or (set new at byte) i 0) (sym here) ∙ get_or-set_same new at byte 0 low in
+      record {
+        changed = below_more _ _
+            (λ j h. subst (ChangesByte change first end j (get_or old j 0)) (sym (get_or-set_other new at j byte 0 (omega arith))) (c.changed j h))
+            (record {
+              touched = λ from to. (bits, small, part, rw (is, sym was) done);
+              before = λ h. absurd (omega arith);
+              past = λ h. absurd (omega arith);
+            });
+        kept = λ j h. get_or-set_other new at j byte 0 (omega arith) ∙ c.kept j (omega arith);
+        rest = λ j h. drop-set-lt j new at byte (omega arith) ∙ c.rest j h;
+      }
+
+  pub changed_all : (new : List ℕ) (k : ℕ) → Changed change first end old new k → end ≤ 8 * k → (j : ℕ) → ChangesByte change first end j (get_or old j 0) (get_or new j 0)
+  changed_all new k c h j =
+      ⊎_elim
+      (λ l. c.changed j l)
+      (λ l. record { touched = λ from to. absurd (omega arith); before = λ h. c.kept j l; past = λ h. c.kept j l })
+      (cases_lt j k)
 
 -- bytes whose bits in a stretch were turned, each byte at once
 module _ (old new : List ℕ) (first end : ℕ) (on : Bool) (change : ℕ → ℕ → ℕ → Type 0) (within : end ≤ 8 * length old)

@@ -5,7 +5,7 @@ use native.Mathlib.Nat.{zero-div}
 use Rattle.std.proofs.lemmas.Bool.{cases_lt, lt-ltb}
 use Rattle.std.proofs.lemmas.Bool.Decides.{nat_tests}
 use Rattle.backing.specs.Bits.{bit_of, bit_at, bytes_for, marked, MaskOk}
-use Rattle.backing.specs.Meaning.{fresh, tally, present, turn}
+use Rattle.backing.specs.Meaning.{fresh, tally, present, turn, most_granules}
 use Rattle.backing.proofs.Lent.{full}
 use Rattle.backing.proofs.Tallies.{tally_const, tally_same}
 
@@ -29,6 +29,10 @@ none_marked bytes size z = ap (λ h. full h size) (fun_ext (marked_none bytes si
 
 pub none_counted : (bytes : List ℕ) (size : ℕ) → ((k : ℕ) → k < bytes_for size → get_or bytes k 0 ≡ 0) → 0 ≡ tally (marked bytes size) 0 size
 none_counted bytes size z = sym (ap (λ h. tally h 0 size) (fun_ext (marked_none bytes size z)) ∙ tally_const false 0 size)
+
+-- a mask in bytes that were cleared
+pub cleared_ok : (bytes : List ℕ) (size : ℕ) → 1 ≤ size → size ≤ most_granules → size ≤ 8 * length bytes → ((k : ℕ) → k < bytes_for size → get_or bytes k 0 ≡ 0) → MaskOk bytes size 0
+cleared_ok bytes size some bounded covered z = record { some = some; bounded = bounded; covered = covered; counted = none_counted bytes size z; idle = idle_none bytes size z }
 
 -- inside a mask the bits are the granules
 pub bits_present : (bytes : List ℕ) (size first n : ℕ) → first + n ≤ size → tally (bit_at bytes) first n ≡ present (full (marked bytes size) size) first n

@@ -1,5 +1,5 @@
 use Rattle.std.proofs.Common.{arith}
-use Rattle.backing.proofs.Parts.{changed_none, changed_more, changed_all}
+use Rattle.backing.proofs.Bytes.{changed_none, changed_more, changed_all}
 use Rattle.backing.proofs.bits.change.Goals as goal
 
 pub loop-k-init : goal.loop-k-init

@@ -1,4 +1,4 @@
-use Rattle.backing.proofs.Parts.{Changed}
+use Rattle.backing.proofs.Bytes.{Changed}
 use Rattle.backing.proofs.bits.change.Given as goal
 
 abbrev pub invariant-loop-k : goal.invariant-loop-k
