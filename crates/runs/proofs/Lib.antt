@@ -1,5 +1,6 @@
 pub mod Order
 pub mod Points
+pub mod Passing
 pub mod Looks
 pub mod Splices
 pub mod Turns

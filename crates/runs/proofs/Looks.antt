@@ -55,17 +55,19 @@ module _ (rs : List Run) (p : Apart 0 (most_granules + 1) rs) (first end : ℕ) 
     front_before : Apart 0 first (take k rs)
     front_before = apart_high 0 (next 0 (take k rs)) first (take k rs) ends_at (front rs (most_granules + 1) p k)
 
-    pub seen_from : Seen rs first end k k first end 0
-    seen_from = record {
-      order = omega arith;
-      from = omega arith;
-      to = omega arith;
-      before = front_before;
-      met = λ l. absurd (omega arith);
-      bound = omega arith;
-      joined = λ g. refl;
-      counted = sym (tally_same (in_runs (take k rs)) (λ g. false) first (end - first) (λ g l r. none_above 0 first (take k rs) g front_before (omega arith)) ∙ tally_const false first (end - first));
-    }
+    pub seen_from : (n low high held : ℕ) → n ≡ k → low ≡ first → high ≡ end → held ≡ 0 → Seen rs first end n k low high held
+    seen_from n low high held same lows highs none =
+        subst (λ i. Seen rs first end i k low high held) (sym same)
+        record {
+          order = omega arith;
+          from = omega arith;
+          to = omega arith;
+          before = subst (λ i. Apart 0 i (take k rs)) (sym lows) front_before;
+          met = λ l. absurd (omega arith);
+          bound = omega arith;
+          joined = λ g. ap (λ i. in_span i end g || in_runs (take k rs) g) (sym lows) ∙ ap (λ i. in_span low i g || in_runs (take k rs) g) (sym highs);
+          counted = none ∙ sym (tally_same (in_runs (take k rs)) (λ g. false) first (end - first) (λ g l r. none_above 0 first (take k rs) g front_before (omega arith)) ∙ tally_const false first (end - first));
+        }
 
   -- one run more
   module _ (k at low high held : ℕ) (d : Run) (within : k < length rs) (seen : Seen rs first end k at low high held) where
@@ -79,7 +81,7 @@ module _ (rs : List Run) (p : Apart 0 (most_granules + 1) rs) (first end : ℕ) 
     run_fits = at_k.high
 
     -- what the run adds
-    count_more : tally (in_runs (take (k + 1) rs)) first (end - first) ≡ tally (in_runs (take k rs)) first (end - first) + (min (end_of run) end - max run.first first)
+    pub count_more : tally (in_runs (take (k + 1) rs)) first (end - first) ≡ tally (in_runs (take k rs)) first (end - first) + (min (end_of run) end - max run.first first)
     count_more =
         let e : first + (end - first) ≡ end = omega arith in
         tally_same (in_runs (take (k + 1) rs)) (λ g. in_runs (take k rs) g || covers run g) first (end - first) (λ g l r. at_k.in_more g)

@@ -30,7 +30,7 @@ apart_more a b run runs l n p = and_from _ _ (and_from _ _ (le-leb a run.first l
 pub apart_one : (a b : ℕ) (run : Run) → a ≤ run.first → 1 ≤ run.count → end_of run < b → Apart a b (run ∷ [])
 apart_one a b run l n h = apart_more a b run [] l n (apart_none (end_of run + 1) b (omega arith))
 
-apart_low : (a m b : ℕ) (xs : List Run) → a ≤ m → Apart m b xs → Apart a b xs
+pub apart_low : (a m b : ℕ) (xs : List Run) → a ≤ m → Apart m b xs → Apart a b xs
 apart_low a m b [] h p = apart_none a b (omega (arith, apart_empty m b p))
 apart_low a m b (x ∷ xs) h p = let q = apart_leads m b x xs p in apart_more a b x xs (omega arith) q.some q.rest
 

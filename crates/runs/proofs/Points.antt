@@ -82,13 +82,6 @@ pub record Reached (rs : List Run) (first end at past : ℕ) : Type 0 where
   pub begins : (j : ℕ) (d : Run) → j < past → (get_or rs j d).first ≤ end
   pub beyond : (j : ℕ) (d : Run) → past ≤ j → j < length rs → end < (get_or rs j d).first
 
-pub reached_order : (rs : List Run) (first end at past : ℕ) → first < end → Reached rs first end at past → at ≤ past
-reached_order rs first end at past some r =
-    ⊎_elim
-    (λ h. absurd (omega (arith, r.ends past blank h, r.beyond past blank (omega arith) (omega (arith, r.at_in)))))
-    (λ h. h)
-    (cases_lt past at)
-
 pub reached_by : (rs : List Run) (first end at past : ℕ) → at ≤ length rs → past ≤ length rs
     → IsPartitionPoint (λ r. ltb (end_of r) first ≡ true) (λ r. ltb (end_of r) first ≡ false) rs at
     → IsPartitionPoint (λ r. leb r.first end ≡ true) (λ r. leb r.first end ≡ false) rs past → Reached rs first end at past

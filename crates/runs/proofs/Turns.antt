@@ -42,7 +42,7 @@ module _ (size : â„•) (rs : List Run) (p : Apart 0 (size + 1) rs) (first end : â
   past_apart : Apart (s.high + 1) (size + 1) past
   past_apart = q.after (size + 1) p (omega arith)
 
-  reach_some : s.low < s.high
+  pub reach_some : s.low < s.high
   reach_some = omega (arith, q.from, q.to)
 
   merged_apart : Apart 0 (size + 1) (merged rs s)

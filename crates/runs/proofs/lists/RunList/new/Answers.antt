@@ -17,7 +17,7 @@ empty c g = ap (λ n. in_runs (take n c.new.result.places.now) g) c.new.ensures.
 pub invariant_of-result : goal.invariant_of-result
 invariant_of-result c =
     let a = (goal.at.invariant_of-result c).After-new in
-    let fits = fits_of c.args.size c.div_ceil.result (length c.args.records.now) c.in_ok-records.ensures.answer in
+    let fits = fits_of c.args.size _ (length c.args.records.now) c.in_ok-records.ensures.answer in
     record {
       ok = record {
         some = fits.some;
@@ -32,9 +32,9 @@ invariant_of-result c =
 pub returns-clause-answer : goal.returns-clause-answer
 returns-clause-answer c =
     let a = (goal.at.returns-clause-answer c).After-new in
-    ap (λ h. Ok (full h c.args.size)) (fun_ext (empty a)) ∙ made_of c.args.size _ c.div_ceil.result (length c.args.records.now) _ c.in_ok-records.ensures.answer (omega arith)
+    ap (λ h. Ok (full h c.args.size)) (fun_ext (empty a)) ∙ made_of c.args.size _ _ (length c.args.records.now) _ c.in_ok-records.ensures.answer (omega arith)
 
 pub returns-in_err-records-clause-answer : goal.returns-in_err-records-clause-answer
 returns-in_err-records-clause-answer c =
     let p = err_from_is_err_and c.from_residual.result c.from_residual.ensures.1 in
-    rw (p.1, p.2) (made_of c.args.size _ c.div_ceil.result (length c.args.records.now) _ c.in_err-records.ensures.answer (omega arith))
+    rw (p.1, p.2) (made_of c.args.size _ _ (length c.args.records.now) _ c.in_err-records.ensures.answer (omega arith))
