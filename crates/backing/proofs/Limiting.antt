@@ -6,11 +6,11 @@ use Rattle.backing.specs.Replies.{accepted, commit_reply, release_reply}
 use Rattle.backing.proofs.Lawful.{commit_counted, release_counted}
 
 -- where the limit does not stand in the way, a commit is as below
-limited_committed : (limit : ℕ) (m : Meaning) (first n : ℕ) → count m + missing m first n ≤ limit → limited limit (commit_after m first n) ≡ commit_after (limited limit m) first n
+pub limited_committed : (limit : ℕ) (m : Meaning) (first n : ℕ) → count m + missing m first n ≤ limit → limited limit (commit_after m first n) ≡ commit_after (limited limit m) first n
 unfolding commit_after
 limited_committed limit m first n under = grind (arith, nat_tests)
 
-limited_released : (limit : ℕ) (m : Meaning) (first n : ℕ) → limited limit (release_after m first n) ≡ release_after (limited limit m) first n
+pub limited_released : (limit : ℕ) (m : Meaning) (first n : ℕ) → limited limit (release_after m first n) ≡ release_after (limited limit m) first n
 unfolding release_after
 limited_released limit m first n = grind (arith, nat_tests)
 

@@ -1,5 +1,5 @@
 // A backing that allows no more than its limit of the backing below it.
-ghost use Rattle.std.specs.Prelude.{◌≡◌, ◌+◌, ◌≤◌, min, IfOk, IfErr, OnErr, MatchResult};
+ghost use Rattle.std.specs.Prelude.{◌≡◌, ◌+◌, ◌≤◌, IfOk, IfErr, OnErr, MatchResult};
 ghost use Rattle.backing.specs.Meaning.{count, missing, commit_after};
 ghost use Rattle.backing.specs.Replies.{told, commit_reply};
 ghost use Rattle.backing.specs.Makings.{making, limiter_making};
@@ -43,13 +43,6 @@ impl<B: Backing> Limiter<B> {
         below
     }
 
-    // The limit. It fits, but the type does not say so.
-    fn limit(&self) -> u32
-        ensures { result ≡ min (limit_of B.Backing.means self.now) 4294967295 }
-    {
-        self.count().saturating_add(self.left)
-    }
-
     // Refuses a commit that the limit alone stands against.
     #[tactic(auto, using(crate::specs::Soundness::tally_le), unfolding(crate::specs::Meaning::commit_after, crate::specs::Replies::commit_reply, crate::specs::Replies::missing_reply))]
     fn check_limit(&self, stretch: Stretch) -> Result<(), Refusal>
@@ -83,7 +76,7 @@ impl<B: Backing> Backing for Limiter<B> {
     }
 
     fn allowance(&self) -> u32 {
-        self.limit().min(self.below.allowance())
+        self.count() + self.room()
     }
 
     fn count(&self) -> u32 {
@@ -92,6 +85,10 @@ impl<B: Backing> Backing for Limiter<B> {
 
     fn held(&self, granule: u32) -> bool {
         self.below.held(granule)
+    }
+
+    fn room(&self) -> u32 {
+        self.left.min(self.below.room())
     }
 
     #[tactic(auto, using(crate::proofs::Limiting::left_committed), unfolding(crate::specs::Meaning::commit_after, crate::specs::Replies::commit_reply))]
