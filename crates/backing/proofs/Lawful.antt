@@ -1,10 +1,11 @@
 -- The laws of every backing.
-use Rattle.std.proofs.Common.{◌≡◌, ℕ, ◌+◌, ◌≤◌, Bool, true, false, ◌&&◌, [], ◌∷◌, refl, ◌∙◌, arith}
+use Rattle.std.proofs.Common.{◌≡◌, ℕ, ◌+◌, ◌≤◌, Bool, true, false, ◌&&◌, [], ◌∷◌, Ok, refl, ◌∙◌, arith}
 use Rattle.std.proofs.lemmas.Bool.{le-leb, cond_both}
 use Rattle.std.proofs.lemmas.Bool.Decides.{nat_tests}
 use Rattle.backing.specs.Meaning.{Meaning, Sound, count, tally, inside, affordable, turn, turned, commit_after, release_after, missing}
-use Rattle.backing.specs.Replies.{accepted, commit_reply, release_reply}
+use Rattle.backing.specs.Replies.{accepted, commit_reply, release_reply, stretch_end}
 use Rattle.backing.specs.Laws.{Call, commit, release, call_after, CallsKeepBackingsSound}
+use Rattle.backing.proofs.Lent.{full}
 use Rattle.backing.proofs.Tallies.{tally_added, tally_removed, tally_room}
 
 -- an accepted call answers by how much the count changed
@@ -61,3 +62,15 @@ calls_keep_backings_sound_lem m (call ∷ calls) =
 -- where all is allowed, no stretch inside is over the allowance
 pub all_affordable : (m : Meaning) (first n : ℕ) → m.allowance ≡ m.size → first + n ≤ m.size → affordable m first n ≡ true
 all_affordable m first n all fits = le-leb _ _ (omega (arith, tally_room m.held first n m.size fits))
+
+-- what a call leaves of a backing that allows all: a stretch that ends inside it is turned, from its first granule up to its end
+module _ (set : ℕ → Bool) (size first n from end : ℕ) (starts : from ≡ first) (ends : Ok end ≡ stretch_end size first n) where
+  pub all_committed : full (turn set from end true) size ≡ commit_after (full set size) first n
+  unfolding commit_after
+  all_committed =
+      let room = all_affordable (full set size) first n refl (grind (arith, nat_tests)) in
+      grind (arith, nat_tests, room)
+
+  pub all_released : full (turn set from end false) size ≡ release_after (full set size) first n
+  unfolding release_after
+  all_released = grind (arith, nat_tests)

@@ -2,6 +2,7 @@ pub mod Meaning
 pub mod Replies
 pub mod Makings
 pub mod Bits
+pub mod Parts
 pub mod Masks
 pub mod Limits
 pub mod Soundness

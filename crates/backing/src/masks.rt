@@ -1,12 +1,14 @@
 // A backing in bytes that the caller lends, one bit a granule.
 ghost use Rattle.std.specs.Prelude.{ℕ, List};
 ghost use Rattle.backing.specs.Bits.{MaskOk};
+ghost use Rattle.backing.specs.Parts.{MaskParts};
 
 use crate::bits;
 use crate::interface::Backing;
 use crate::makings::enough;
 use crate::refusals::{Refusal, Refused};
 use crate::stretches::{Span, Stretch};
+use std::marker::Model;
 
 #[derive(Debug, Drop)]
 pub struct Mask<'a> {
@@ -14,6 +16,13 @@ pub struct Mask<'a> {
     size: u32,
     count: u32,
     pub ghost ok: { MaskOk bytes.now size count },
+}
+
+// A clause sees every field. By the ghost field alone no function would get its proof that takes a mask by value, changes it and lets it go.
+impl<'a> Model for Mask<'a> {
+    ghost Value = { MaskParts };
+
+    ghost view = { λ m. record { bytes = m.bytes; size = m.size; count = m.count; ok = m.ok } };
 }
 
 impl<'a> Mask<'a> {
@@ -82,7 +91,7 @@ impl Backing for Mask<'_> {
         granule < self.size && bits::is_set(self.bytes, granule)
     }
 
-    #[tactic(auto, using(crate::specs::Soundness::tally_le, crate::proofs::Lawful::all_affordable), unfolding(crate::specs::Meaning::commit_after, crate::specs::Replies::commit_reply))]
+    #[tactic(auto, using(crate::specs::Soundness::tally_le), unfolding(crate::specs::Meaning::commit_after, crate::specs::Replies::commit_reply))]
     fn commit(&mut self, stretch: Stretch) -> Result<u32, Refusal> {
         let span = stretch.within(self.size)?;
         let added = span.count() - self.present(span);

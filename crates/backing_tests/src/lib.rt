@@ -108,6 +108,25 @@ mod tests {
         Ok(())
     }
 
+    // Takes a mask by value, changes it and lets it go.
+    fn spend(mask: Mask<'_>, committing: bool) -> u32 {
+        let mut mask = mask;
+        if committing {
+            let _ = mask.commit(stretch(2, 3));
+        }
+        mask.count()
+    }
+
+    #[test]
+    fn masks_taken_by_value(rt: HostRuntime) -> Result<(), Fail> {
+        let mut bytes = [0xff; 2];
+        assert_eq!(rt; spend(Mask::new(&mut bytes, 12)?, true), 3);
+        assert_eq!(rt; bytes, [0x1c, 0]);
+        assert_eq!(rt; spend(Mask::new(&mut bytes, 12)?, false), 0);
+        assert_eq!(rt; bytes, [0, 0]);
+        Ok(())
+    }
+
     // No mask of this size fits into two bytes. The run list has its own: a function over either's memory has no proof.
     fn leaves_two_bytes(rt: &impl Abort, size: u32) -> Result<(), Fail> {
         let mut bytes = [0xaa; 2];

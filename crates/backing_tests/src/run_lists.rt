@@ -115,6 +115,39 @@ fn spare_records_stay(rt: HostRuntime) -> Result<(), Fail> {
     Ok(())
 }
 
+// Takes a run list by value, changes it in a loop and lets it go.
+fn spend_in_a_loop(list: RunList<'_>, times: u32) -> usize {
+    let mut list = list;
+    for _ in 0..times {
+        let _ = list.commit(stretch(1, 2));
+        let _ = list.commit(stretch(5, 1));
+    }
+    list.runs().len()
+}
+
+// Takes the records back on one way out, and lets the list go on the other.
+fn taken_back(list: RunList<'_>, wanted: bool) -> Option<&mut [Run]> {
+    let mut list = list;
+    let _ = list.commit(stretch(4, 2));
+    if wanted {
+        return Some(list.into_records());
+    }
+    None
+}
+
+#[test]
+fn lists_taken_by_value(rt: HostRuntime) -> Result<(), Fail> {
+    let mut records = [UNUSED; 3];
+    assert_eq!(rt; spend_in_a_loop(RunList::new(&mut records, 6)?, 2), 2);
+    assert_eq!(rt; spend_in_a_loop(RunList::new(&mut records, 6)?, 0), 0);
+    assert!(rt; taken_back(RunList::new(&mut records, 6)?, false).is_none());
+    let Some(back) = taken_back(RunList::new(&mut records, 6)?, true) else {
+        return Err(Fail::new("let go"));
+    };
+    assert_eq!(rt; back.first(), Some(&run(4, 2)));
+    Ok(())
+}
+
 // No run list of this size fits into two records.
 fn leaves_two_records(rt: &impl Abort, size: u32) -> Result<(), Fail> {
     let mut records = [UNUSED; 2];

@@ -1,4 +1,5 @@
 pub mod Rows
+pub mod Parts
 pub mod Lent
 pub mod Reach
 pub mod Lists

@@ -2,11 +2,13 @@
 ghost use Rattle.std.specs.Prelude.{List};
 ghost use Rattle.runs.specs.declared.rows.Run.{Run};
 ghost use Rattle.runs.specs.Rows.{RunListOk};
+ghost use Rattle.runs.specs.Parts.{ListParts};
 
 use crate::lent::LentVec;
 use crate::ordered::Ordered;
 use crate::rows::{Reach, Run};
 use backing::{Backing, Refusal, Refused, Span, Stretch, enough};
+use std::marker::Model;
 
 #[derive(Debug, Drop)]
 pub struct RunList<'a> {
@@ -14,6 +16,13 @@ pub struct RunList<'a> {
     size: u32,
     count: u32,
     pub ghost ok: { RunListOk rows.places.now rows.len size count },
+}
+
+// A clause sees every field. By the ghost field alone no function would get its proof that takes a list by value, changes it and lets it go.
+impl<'a> Model for RunList<'a> {
+    ghost Value = { ListParts };
+
+    ghost view = { λ l. record { rows = l.rows; size = l.size; count = l.count; ok = l.ok } };
 }
 
 impl<'a> RunList<'a> {

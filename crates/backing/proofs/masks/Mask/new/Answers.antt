@@ -9,12 +9,12 @@ use Rattle.backing.proofs.masks.Mask.new.Goals as goal
 pub invariant_of-result : goal.invariant_of-result
 invariant_of-result c =
     let fits = fits_of _ _ _ c.in_ok-bytes.ensures.answer in
-    let zero = zeros_only _ c.fill.new.self (c.fill.ensures.after (λ y p. p)) in
-    record {
-      ok = cleared_ok _ _ fits.some fits.bounded
+    let zero = zeros_only _ c.fill.new.self (c.fill.ensures.after (λ y p. p)) in (
+      cleared_ok _ _ fits.some fits.bounded
           (grind (arith, fits.covered, length-append {A = ℕ}, length-take {A = ℕ}))
-          (λ k h. grind (arith, nat_tests, get_or-joined, zero, fits.covered, length-take {A = ℕ}));
-    }
+          (λ k h. grind (arith, nat_tests, get_or-joined, zero, fits.covered, length-take {A = ℕ})),
+      tt,
+    )
 
 pub returns-clause-answer : goal.returns-clause-answer
 returns-clause-answer c =

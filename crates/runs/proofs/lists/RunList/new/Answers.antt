@@ -17,17 +17,17 @@ empty c g = ap (λ n. in_runs (take n c.new.result.places.now) g) c.new.ensures.
 pub invariant_of-result : goal.invariant_of-result
 invariant_of-result c =
     let a = (goal.at.invariant_of-result c).After-new in
-    let fits = fits_of c.args.size _ (length c.args.records.now) c.in_ok-records.ensures.answer in
-    record {
-      ok = record {
+    let fits = fits_of c.args.size _ (length c.args.records.now) c.in_ok-records.ensures.answer in (
+      record {
         some = fits.some;
         bounded = fits.bounded;
         covered = omega (arith, fits.covered, ap length c.new.ensures.places, ap length c.in_ok-records.ensures.same);
         used = c.new.result.used;
         apart = subst (λ n. Apart 0 (c.args.size + 1) (take n c.new.result.places.now)) (sym c.new.ensures.len) (apart_none 0 (c.args.size + 1) (omega arith));
         counted = sym (ap (λ h. tally h 0 c.args.size) (fun_ext (empty a)) ∙ tally_const false 0 c.args.size);
-      };
-    }
+      },
+      tt,
+    )
 
 pub returns-clause-answer : goal.returns-clause-answer
 returns-clause-answer c =
