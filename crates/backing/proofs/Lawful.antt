@@ -1,5 +1,6 @@
 -- The laws of every backing.
-use Rattle.std.proofs.Common.{◌≡◌, ℕ, ◌+◌, ◌≤◌, Bool, true, false, ◌&&◌, [], ◌∷◌, Ok, refl, ◌∙◌, arith}
+use Rattle.std.proofs.Common.{◌≡◌, ℕ, ◌+◌, ◌≤◌, Bool, true, false, ◌&&◌, [], ◌∷◌, Ok, refl, ap, ◌∙◌, arith}
+use mathlib.Core.Path.{fun_ext}
 use Rattle.std.proofs.lemmas.Bool.{le-leb, cond_both}
 use Rattle.std.proofs.lemmas.Bool.Decides.{nat_tests}
 use Rattle.backing.specs.Meaning.{Meaning, Sound, count, tally, inside, affordable, turn, turned, commit_after, release_after, missing}
@@ -64,13 +65,13 @@ pub all_affordable : (m : Meaning) (first n : ℕ) → m.allowance ≡ m.size �
 all_affordable m first n all fits = le-leb _ _ (omega (arith, tally_room m.held first n m.size fits))
 
 -- what a call leaves of a backing that allows all: a stretch that ends inside it is turned, from its first granule up to its end
-module _ (set : ℕ → Bool) (size first n from end : ℕ) (starts : from ≡ first) (ends : Ok end ≡ stretch_end size first n) where
-  pub all_committed : full (turn set from end true) size ≡ commit_after (full set size) first n
+module _ (set after : ℕ → Bool) (size first n from end : ℕ) (starts : from ≡ first) (ends : Ok end ≡ stretch_end size first n) where
+  pub all_committed : ((g : ℕ) → after g ≡ turn set from end true g) → full after size ≡ commit_after (full set size) first n
   unfolding commit_after
-  all_committed =
+  all_committed turns =
       let room = all_affordable (full set size) first n refl (grind (arith, nat_tests)) in
-      grind (arith, nat_tests, room)
+      ap (λ h. full h size) (fun_ext turns) ∙ (grind (arith, nat_tests, room))
 
-  pub all_released : full (turn set from end false) size ≡ release_after (full set size) first n
+  pub all_released : ((g : ℕ) → after g ≡ turn set from end false g) → full after size ≡ release_after (full set size) first n
   unfolding release_after
-  all_released = grind (arith, nat_tests)
+  all_released turns = ap (λ h. full h size) (fun_ext turns) ∙ (grind (arith, nat_tests))

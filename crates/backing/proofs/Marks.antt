@@ -44,10 +44,6 @@ module _ (bytes after : List ℕ) (size from end : ℕ) (fits : end ≤ size) (o
   pub mask_turned : (g : ℕ) → marked after size g ≡ turn (marked bytes size) from end on g
   mask_turned g = ap (λ b. ltb g size && b) (turns g) ∙ (grind (arith, nat_tests))
 
-  -- so what the bytes mean is turned in the same way
-  pub means_turned : full (marked after size) size ≡ full (turn (marked bytes size) from end on) size
-  means_turned = ap (λ h. full h size) (fun_ext mask_turned)
-
   -- with its new count the mask is as calls leave it
   pub mask_still : (count k : ℕ) → length after ≡ length bytes → MaskOk bytes size count → k ≡ tally (marked after size) 0 size → MaskOk after size k
   mask_still count k long ok counts = record {

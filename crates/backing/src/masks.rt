@@ -18,7 +18,7 @@ pub struct Mask<'a> {
     pub ghost ok: { MaskOk bytes.now size count },
 }
 
-// A clause sees every field. By the ghost field alone no function would get its proof that takes a mask by value, changes it and lets it go.
+// A clause sees every field. It is for functions that take a mask by value, change it and let it go: by the ghost field alone they get no proof.
 impl<'a> Model for Mask<'a> {
     ghost Value = { MaskParts };
 

@@ -109,8 +109,7 @@ mod tests {
     }
 
     // Takes a mask by value, changes it and lets it go.
-    fn spend(mask: Mask<'_>, committing: bool) -> u32 {
-        let mut mask = mask;
+    fn spend(mut mask: Mask<'_>, committing: bool) -> u32 {
         if committing {
             let _ = mask.commit(stretch(2, 3));
         }

@@ -116,8 +116,7 @@ fn spare_records_stay(rt: HostRuntime) -> Result<(), Fail> {
 }
 
 // Takes a run list by value, changes it in a loop and lets it go.
-fn spend_in_a_loop(list: RunList<'_>, times: u32) -> usize {
-    let mut list = list;
+fn spend_in_a_loop(mut list: RunList<'_>, times: u32) -> usize {
     for _ in 0..times {
         let _ = list.commit(stretch(1, 2));
         let _ = list.commit(stretch(5, 1));
@@ -126,8 +125,7 @@ fn spend_in_a_loop(list: RunList<'_>, times: u32) -> usize {
 }
 
 // Takes the records back on one way out, and lets the list go on the other.
-fn taken_back(list: RunList<'_>, wanted: bool) -> Option<&mut [Run]> {
-    let mut list = list;
+fn taken_back(mut list: RunList<'_>, wanted: bool) -> Option<&mut [Run]> {
     let _ = list.commit(stretch(4, 2));
     if wanted {
         return Some(list.into_records());

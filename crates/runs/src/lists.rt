@@ -18,7 +18,7 @@ pub struct RunList<'a> {
     pub ghost ok: { RunListOk rows.places.now rows.len size count },
 }
 
-// A clause sees every field. By the ghost field alone no function would get its proof that takes a list by value, changes it and lets it go.
+// A clause sees every field. It is for functions that take a list by value, change it and let it go: by the ghost field alone they get no proof.
 impl<'a> Model for RunList<'a> {
     ghost Value = { ListParts };
 

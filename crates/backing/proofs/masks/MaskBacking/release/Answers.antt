@@ -1,10 +1,10 @@
-use Rattle.std.proofs.Common.{◌-◌, ◌≤◌, false, arith, ap, ◌∙◌}
+use Rattle.std.proofs.Common.{◌-◌, ◌≤◌, false, arith, ap}
 use Rattle.std.proofs.lemmas.Bool.Decides.{nat_tests}
 use Rattle.backing.specs.Bits.{marked}
 use Rattle.backing.specs.Masks.{mask_means}
 use Rattle.backing.specs.Meaning.{present}
 use Rattle.backing.proofs.Lawful.{all_released}
-use Rattle.backing.proofs.Marks.{mask_turned, means_turned, mask_still}
+use Rattle.backing.proofs.Marks.{mask_turned, mask_still}
 use Rattle.backing.proofs.Tallies.{tally_part, turned_fewer}
 use Rattle.backing.proofs.masks.MaskBacking.release.Goals as goal
 
@@ -31,5 +31,5 @@ returns-clause-after c =
     let l = c.self.inside in
     let span = c.in_ok-span.span in
     let fits : span.end ≤ l.size = grind (arith, nat_tests) in
-    let turns = means_turned l.bytes.now c.clear.new.bytes l.size span.first span.end fits false c.clear.ensures.bits in
-    rw (← c.self.view_is) (turns ∙ all_released _ _ _ _ _ _ c.in_ok-span.ensures.first c.in_ok-span.ensures.end)
+    let turns = mask_turned l.bytes.now c.clear.new.bytes l.size span.first span.end fits false c.clear.ensures.bits in
+    rw (← c.self.view_is) (all_released _ _ _ _ _ _ _ c.in_ok-span.ensures.first c.in_ok-span.ensures.end turns)

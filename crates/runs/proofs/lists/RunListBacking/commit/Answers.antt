@@ -1,9 +1,7 @@
-use Rattle.std.proofs.Common.{◌≤◌, true, subst, sym, ap, ◌∙◌, arith}
-use mathlib.Core.Path.{fun_ext}
+use Rattle.std.proofs.Common.{◌≤◌, true, subst, sym, arith}
 use Rattle.std.proofs.lemmas.Bool.Decides.{nat_tests}
 use Rattle.backing.specs.Replies.{commit_reply}
 use Rattle.backing.proofs.Lawful.{all_committed}
-use Rattle.backing.proofs.Lent.{full}
 use Rattle.backing.proofs.Tallies.{tally_both, tally_room, turned_more}
 use Rattle.runs.specs.Lent.{items_of}
 use Rattle.runs.specs.Rows.{in_runs}
@@ -60,7 +58,7 @@ returns-clause-answer c =
 pub returns-clause-after : goal.returns-clause-after
 returns-clause-after c =
     let held = (now (goal.at.returns-clause-after c).After-merge).turned.held in
-    rw (← c.self.view_is) (ap (λ h. full h c.self.inside.size) (fun_ext held) ∙ all_committed _ _ _ _ _ _ c.in_ok-span.ensures.first c.in_ok-span.ensures.end)
+    rw (← c.self.view_is) (all_committed _ _ _ _ _ _ _ c.in_ok-span.ensures.first c.in_ok-span.ensures.end held)
 
 pub returns-clause-spares : goal.returns-clause-spares
 returns-clause-spares c =

@@ -1,8 +1,6 @@
-use Rattle.std.proofs.Common.{◌≤◌, false, subst, sym, ap, ◌∙◌, arith}
-use mathlib.Core.Path.{fun_ext}
+use Rattle.std.proofs.Common.{◌≤◌, false, subst, sym, arith}
 use Rattle.std.proofs.lemmas.Bool.Decides.{nat_tests}
 use Rattle.backing.proofs.Lawful.{all_released}
-use Rattle.backing.proofs.Lent.{full}
 use Rattle.backing.proofs.Tallies.{tally_part, turned_fewer}
 use Rattle.runs.specs.Lent.{items_of}
 use Rattle.runs.specs.Rows.{in_runs}
@@ -60,7 +58,7 @@ overflow_sub-self c =
 pub returns-clause-after : goal.returns-clause-after
 returns-clause-after c =
     let held = (now (goal.at.returns-clause-after c).After-cut).turned.held in
-    rw (← c.self.view_is) (ap (λ h. full h c.self.inside.size) (fun_ext held) ∙ all_released _ _ _ _ _ _ c.in_ok-span.ensures.first c.in_ok-span.ensures.end)
+    rw (← c.self.view_is) (all_released _ _ _ _ _ _ _ c.in_ok-span.ensures.first c.in_ok-span.ensures.end held)
 
 pub returns-clause-spares : goal.returns-clause-spares
 returns-clause-spares c =
